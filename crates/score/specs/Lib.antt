@@ -1,1 +1,5 @@
+pub mod Entries
 pub mod Model
+pub mod Tiered
+pub mod Total
+pub mod Worst

@@ -1,1 +1,4 @@
 pub mod interface;
+pub mod margins;
+pub mod tiers;
+pub mod totals;

@@ -1,0 +1,3 @@
+pub mod Entries
+pub mod Integers
+pub mod TotalSizes

@@ -1,0 +1,55 @@
+// Total: hits times cycles, added up.
+ghost use mathlib.Core.Path.{_≡_};
+ghost use Rattle.score.specs.Total.{total-model, total-held};
+use crate::interface::Kind;
+
+// How often a table is hit in the same cycle as another, and how many cycles each hit is worth.
+#[derive(Clone, Copy)]
+pub struct Access {
+    pub hits: u32,
+    pub cycles: i32,
+}
+
+#[derive(Clone, Copy)]
+pub struct Total {
+    pub sum: i64,
+}
+
+const MOST_CYCLES: i32 = 65_535;
+
+const LEAST_CYCLES: i32 = -65_535;
+
+pub impl Kind for Total as TotalKind {
+    type Entry = Access;
+
+    type Score = i64;
+
+    ghost model = { total-model };
+
+    ghost means = { λ s. s .sum };
+
+    ghost held = { total-held };
+
+    fn neutral() -> Total {
+        Total { sum: 0 }
+    }
+
+    fn score(entry: Access) -> Option<Total> {
+        if entry.cycles < LEAST_CYCLES || entry.cycles > MOST_CYCLES {
+            return None;
+        }
+        let sum = i64::from(entry.hits) * i64::from(entry.cycles);
+        Some(Total { sum })
+    }
+
+    // A sum past 64 bits stays at the nearest that fits; no 1,024 entries reach so far.
+    fn join(self, other: Total) -> Total {
+        Total {
+            sum: self.sum.saturating_add(other.sum),
+        }
+    }
+
+    fn at_most(self, other: Total) -> bool {
+        self.sum <= other.sum
+    }
+}
