@@ -1,3 +1,5 @@
 pub mod Entries
 pub mod Integers
-pub mod TotalSizes
+pub mod Limits
+pub mod OneAboveAnother
+pub mod TierEntries

@@ -1,4 +1,6 @@
+pub mod Adding
 pub mod Entries
+pub mod Examples
 pub mod Model
 pub mod Tiered
 pub mod Total

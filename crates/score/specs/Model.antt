@@ -1,6 +1,6 @@
 -- What a score kind is: its scores, the laws they keep, and how many entries a score is of. Assumes nothing.
 use mathlib.Core.Path.{_≡_}
-use mathlib.Core.Bool.{Bool, true, cond}
+use mathlib.Core.Bool.{Bool, true, false, cond}
 use mathlib.Core.List.{List, [], _∷_}
 use mathlib.Core.Logic.{_⊎_}
 use Prim.Native.Nat.{ℕ, _+_, _≤_}
@@ -60,3 +60,10 @@ pub record Together {E S : Type 0} (M : Model E S) (a b : S) : Type 0 where
 -- the better of two scores: the greater, and the first if they are equal
 abbrev pub better : {E S : Type 0} → Model E S → S → S → S
 better M a b = cond (M .at-most b a) a b
+
+-- r is the best of a and b: neither is above it, and it is b only where b is above a
+pub record Best-of-two {E S : Type 0} (M : Model E S) (a b : S) (second : Bool) (r : S) : Type 0 where
+  pub is : r ≡ cond second b a
+  pub first-below : M .at-most a r ≡ true
+  pub second-below : M .at-most b r ≡ true
+  pub second-above : second ≡ true → M .at-most b a ≡ false

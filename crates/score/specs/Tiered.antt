@@ -2,11 +2,16 @@
 use mathlib.Core.Bool.{Bool, true, false, _&&_, cond}
 use lib.IntN.{ℤ, pos, negsuc, _+ℤ_}
 use lib.Signed.{leZ}
+use mathlib.Core.List.{List, [], _∷_}
+use Prim.Native.Nat.{ℕ}
+use lib.Chars.{codes}
 use Rattle.std.specs.Numbers.{saturated}
+use Rattle.std.specs.Written.{signed, then}
 use Rattle.std.specs.declared.option.Option.{Option}
 use Rattle.std.specs.declared.option.Option.the-variants.{Some, None}
 use Rattle.score.specs.declared.tiers.Tiered.{Tiered}
 use Rattle.score.specs.declared.tiers.Weighted.{Weighted}
+use Rattle.score.specs.Adding.{adding}
 use Rattle.score.specs.Model.{Model}
 
 -- both scores, where both entries are taken
@@ -34,9 +39,11 @@ module _ {P E F A B : Type 0} (first-of : P → E) (second-of : P → F) (first 
 abbrev pub weight-takes : ℤ → Bool
 weight-takes w = leZ (negsuc 999) w && leZ w (pos 1000)
 
--- weights add
+abbrev pub weight-score : ℤ → Option ℤ
+weight-score w = cond (weight-takes w) (Some w) None
+
 abbrev pub weight-model : Model ℤ ℤ
-weight-model = record { neutral = pos 0; join = _+ℤ_; at-most = leZ; score = λ w. cond (weight-takes w) (Some w) None }
+weight-model = adding weight-score
 
 abbrev pub weight-of : {E : Type 0} → Weighted E → ℤ
 weight-of e = e .weight
@@ -56,3 +63,7 @@ holds-tiered w k = record { weight = w; second = k }
 -- what the join of two held scores holds, also where a sum of weights passes 32 bits
 abbrev pub tiered-held : {K : Type 0} → (K → K → K) → Tiered K → Tiered K → Tiered K
 tiered-held held a b = holds-tiered (saturated 31 (a .weight +ℤ b .weight)) (held (a .second) (b .second))
+
+-- both parts print with a comma between them, where the second kind's text is known
+abbrev pub tiered-text : {K : Type 0} → (K → Option (List ℕ)) → Tiered K → Option (List ℕ)
+tiered-text text t = then (Some (signed (t .weight))) (then (Some (codes ",")) (text (t .second)))

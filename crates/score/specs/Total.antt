@@ -9,6 +9,7 @@ use Rattle.std.specs.declared.option.Option.{Option}
 use Rattle.std.specs.declared.option.Option.the-variants.{Some, None}
 use Rattle.score.specs.declared.totals.Access.{Access}
 use Rattle.score.specs.declared.totals.Total.{Total}
+use Rattle.score.specs.Adding.{adding}
 use Rattle.score.specs.Model.{Model}
 
 -- hits from 0 to 4,294,967,295, and cycles from -65,535 to 65,535
@@ -20,7 +21,7 @@ abbrev pub total-score : Access → Option ℤ
 total-score e = cond (total-takes e) (Some (pos (e .hits) *ℤ e .cycles)) None
 
 abbrev pub total-model : Model Access ℤ
-total-model = record { neutral = pos 0; join = _+ℤ_; at-most = leZ; score = total-score }
+total-model = adding total-score
 
 abbrev pub holds-total : ℤ → Total
 holds-total z = record { sum = z }

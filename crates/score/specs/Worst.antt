@@ -2,7 +2,11 @@
 use mathlib.Core.Bool.{Bool, true, false, _&&_, cond}
 use lib.IntN.{ℤ, pos, negsuc}
 use lib.Signed.{leZ}
+use mathlib.Core.List.{List}
+use Prim.Native.Nat.{ℕ}
+use lib.Chars.{codes}
 use Rattle.std.specs.Numbers.{minZ}
+use Rattle.std.specs.Written.{signed}
 use Rattle.std.specs.declared.option.Option.{Option}
 use Rattle.std.specs.declared.option.Option.the-variants.{Some, None}
 use Rattle.score.specs.declared.margins.Slack.{Slack}
@@ -33,3 +37,8 @@ worst-at-most (Margin a) (Margin b) = leZ a b
 
 abbrev pub worst-model : Model Slack Worst
 worst-model = record { neutral = Unlimited; join = worst-join; at-most = worst-at-most; score = worst-score }
+
+-- a margin prints as its number, and the neutral score as `none`
+abbrev pub worst-text : Worst → Option (List ℕ)
+worst-text Unlimited = Some (codes "none")
+worst-text (Margin m) = Some (signed m)

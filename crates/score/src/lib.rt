@@ -1,3 +1,6 @@
+// Score kinds: what a score is, and the kinds that are delivered.
+pub mod choice;
+pub mod claims;
 pub mod interface;
 pub mod margins;
 pub mod tiers;

@@ -1,7 +1,8 @@
 // Worst margin: of all the margins posted, the smallest.
 ghost use mathlib.Core.Path.{_≡_};
-ghost use Rattle.score.specs.Worst.{worst-model};
+ghost use Rattle.score.specs.Worst.{worst-model, worst-text};
 use crate::interface::Kind;
+use std::fmt;
 
 // How far a table's reads stay from their deadline.
 #[derive(Clone, Copy)]
@@ -55,6 +56,17 @@ pub impl Kind for Worst as WorstKind {
             (_, Worst::Unlimited) => true,
             (Worst::Unlimited, _) => false,
             (Worst::Margin(a), Worst::Margin(b)) => a <= b,
+        }
+    }
+}
+
+pub impl fmt::Display for Worst as WorstDisplay {
+    ghost shown = { worst-text };
+
+    fn fmt<W: fmt::Write>(&self, f: &mut fmt::Formatter<W>) -> fmt::Result {
+        match self {
+            Worst::Unlimited => write!(f, "none"),
+            Worst::Margin(margin) => write!(f, "{margin}"),
         }
     }
 }

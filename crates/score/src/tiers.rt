@@ -1,7 +1,8 @@
 // Tiered: weights first, and where they are equal a second kind, whichever it is.
 ghost use mathlib.Core.Path.{_≡_};
-ghost use Rattle.score.specs.Tiered.{tiered-model, tiered-means, tiered-held};
+ghost use Rattle.score.specs.Tiered.{tiered-model, tiered-means, tiered-held, tiered-text};
 use crate::interface::Kind;
+use std::fmt;
 
 // A weight, and an entry of the second kind.
 #[derive(Clone, Copy)]
@@ -63,5 +64,15 @@ pub impl<K: Kind> Kind for Tiered<K> as TieredKind {
         } else {
             self.weight < other.weight
         }
+    }
+}
+
+pub impl<K: fmt::Display> fmt::Display for Tiered<K> as TieredDisplay {
+    ghost shown = { tiered-text (K·Display .shown) };
+
+    fn fmt<W: fmt::Write>(&self, f: &mut fmt::Formatter<W>) -> fmt::Result {
+        let weight = self.weight;
+        let second = &self.second;
+        write!(f, "{weight},{second}")
     }
 }

@@ -1,7 +1,10 @@
 // Total: hits times cycles, added up.
 ghost use mathlib.Core.Path.{_≡_};
+ghost use Rattle.std.specs.Written.{signed};
+ghost use Rattle.std.specs.declared.option.Option.the-variants.{Some};
 ghost use Rattle.score.specs.Total.{total-model, total-held};
 use crate::interface::Kind;
+use std::fmt;
 
 // How often a table is hit in the same cycle as another, and how many cycles each hit is worth.
 #[derive(Clone, Copy)]
@@ -51,5 +54,14 @@ pub impl Kind for Total as TotalKind {
 
     fn at_most(self, other: Total) -> bool {
         self.sum <= other.sum
+    }
+}
+
+pub impl fmt::Display for Total as TotalDisplay {
+    ghost shown = { λ s. Some (signed (s .sum)) };
+
+    fn fmt<W: fmt::Write>(&self, f: &mut fmt::Formatter<W>) -> fmt::Result {
+        let sum = self.sum;
+        write!(f, "{sum}")
     }
 }

@@ -7,7 +7,7 @@ use mir.Val.{SFits, toZ, ofZ}
 use mir.Syntax.{w64}
 use borrow.Author.Needs.{needs}
 use Rattle.score.specs.Total.{holds-total}
-use Rattle.score.proofs.TotalSizes.{total-exact}
+use Rattle.score.proofs.Limits.{total-exact}
 use Rattle.score.proofs.totals.TotalKind.join.Needs as need
 
 pub returns : need.returns

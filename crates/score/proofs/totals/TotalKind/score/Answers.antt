@@ -7,7 +7,7 @@ use mir.Syntax.{w32, w64}
 use borrow.Author.Needs.{needs}
 use Rattle.std.specs.declared.option.Option.the-variants.{Some}
 use Rattle.std.proofs.shelf.Signed.{ints, toZ-ofZ}
-use Rattle.score.proofs.TotalSizes.{product-fits, score-taken}
+use Rattle.score.proofs.Limits.{product-fits, score-taken}
 use Rattle.score.proofs.totals.TotalKind.score.Needs as need
 
 hits-small : (c : need.After-from-2) → c .args .entry .hits < 2 ^ 32
