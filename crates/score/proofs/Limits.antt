@@ -1,18 +1,17 @@
 -- The size of an entry's score, for the kinds that add. Assumes nothing.
-use mathlib.Core.Path.{_≡_, refl, sym, subst}
+use mathlib.Core.Path.{_≡_, refl, subst}
 use mathlib.Core.Bool.{Bool, true, false, cond}
-use Prim.Native.Nat.{ℕ, suc, _+_, _*_, _^_, _≤_, _<_}
+use Prim.Native.Nat.{ℕ, suc, _-_, _*_, _^_, _≤_, _<_}
 use native.Mathlib.Omega.{arith}
 use lib.Dec.{lit<}
 use lib.IntN.{ℤ, pos, negsuc, _+ℤ_, _*ℤ_, natAbs}
 use lib.Signed.{mag}
-use mir.Syntax.{w64}
+use mir.Syntax.{w32, w64}
 use mir.Val.{SFits}
 use Rattle.std.specs.Numbers.{saturated}
 use Rattle.std.specs.declared.option.Option.the-variants.{Some, None}
 use Rattle.std.proofs.shelf.Bits.{mul-le}
 use Rattle.std.proofs.shelf.Signed.{ints}
-use Rattle.std.proofs.shelf.Tests.{cond-true}
 use Rattle.std.proofs.shelf.Ways.{tells}
 use Rattle.score.specs.declared.totals.Access.{Access}
 use Rattle.score.specs.Model.{Together}
@@ -54,15 +53,14 @@ weight-small w s h =
 pub weight-exact : (a b : ℤ) → Together weight-model a b → saturated 31 (a +ℤ b) ≡ a +ℤ b
 weight-exact = adding-exact weight-score 1000 weight-small 31 (lit< tt)
 
-mag-below : (z : ℤ) → natAbs z ≤ total-limit → mag z < 2 ^ 63
+mag-below : (z : ℤ) → natAbs z ≤ (2 ^ 32 - 1) * 2 ^ 31 → mag z < 2 ^ 63
 mag-below (pos n) h = omega arith
 mag-below (negsuc n) h = omega arith
 
--- the product of an entry that is taken fits 64 bits with its sign
-pub product-fits : (h : ℕ) (c : ℤ) → h < 2 ^ 32 → natAbs c ≤ 65535 → SFits w64 (pos h *ℤ c)
-product-fits h c p q = record { sfits = mag-below (pos h *ℤ c) (product-size h c 4294967295 65535 (omega arith) q) }
+natAbs-below : (z : ℤ) → mag z < 2 ^ 31 → natAbs z ≤ 2 ^ 31
+natAbs-below (pos n) h = omega arith
+natAbs-below (negsuc n) h = omega arith
 
-pub score-taken : (e : Access) → e .hits < 2 ^ 32 → natAbs (e .cycles) ≤ 65535 → Some (pos (e .hits) *ℤ e .cycles) ≡ total-score e
-score-taken e p q =
-    let takes : total-takes e ≡ true = grind (arith, ints, tells) in
-    sym (cond-true (total-takes e) (Some (pos (e .hits) *ℤ e .cycles)) None takes)
+-- 32 bits times 32 bits with a sign fit 64 bits with a sign
+pub product-fits : (h : ℕ) (c : ℤ) → h < 2 ^ 32 → SFits w32 c → SFits w64 (pos h *ℤ c)
+product-fits h c p q = record { sfits = mag-below (pos h *ℤ c) (product-size h c (2 ^ 32 - 1) (2 ^ 31) (omega arith) (natAbs-below c (q .sfits))) }

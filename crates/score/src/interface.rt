@@ -21,6 +21,9 @@ pub trait Kind: Copy {
 
     law lawful: { Laws model };
 
+    // a join is exact wherever the two are together of at most 1,024 entries
+    law exact: { (a b : Self) → Together model (means a) (means b) → means (held a b) ≡ model .join (means a) (means b) };
+
     fn neutral() -> Self
         ensures { λ r. ⌜ means r ≡ model .neutral ⌝ };
 
@@ -28,10 +31,8 @@ pub trait Kind: Copy {
     fn score(entry: Self::Entry) -> Option<Self>
         ensures { λ r. ⌜ mapped means r ≡ model .score entry ⌝ };
 
-    // Exact wherever the two are together of at most 1,024 entries.
     fn join(self, other: Self) -> Self
-        ensures reply { λ r. ⌜ r ≡ held self other ⌝ }
-        ensures exact { λ r. ⌜ (Together model (means self) (means other) → means r ≡ model .join (means self) (means other)) ⌝ };
+        ensures { λ r. ⌜ r ≡ held self other ⌝ };
 
     fn at_most(self, other: Self) -> bool
         ensures { λ r. ⌜ r ≡ model .«at-most» (means self) (means other) ⌝ };

@@ -5,3 +5,6 @@ pub mod interface;
 pub mod margins;
 pub mod tiers;
 pub mod totals;
+
+#[cfg(test)]
+mod tests;

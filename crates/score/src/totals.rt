@@ -1,5 +1,6 @@
 // Total: hits times cycles, added up.
 ghost use mathlib.Core.Path.{_≡_};
+ghost use lib.IntN.{pos, _*ℤ_};
 ghost use Rattle.std.specs.Written.{signed};
 ghost use Rattle.std.specs.declared.option.Option.the-variants.{Some};
 ghost use Rattle.score.specs.Total.{total-model, total-held};
@@ -22,6 +23,13 @@ const MOST_CYCLES: i32 = 65_535;
 
 const LEAST_CYCLES: i32 = -65_535;
 
+// The whole product: both factors are widened first, so it never wraps.
+fn product(hits: u32, cycles: i32) -> i64
+    ensures { λ r. ⌜ r ≡ pos hits *ℤ cycles ⌝ }
+{
+    i64::from(hits) * i64::from(cycles)
+}
+
 pub impl Kind for Total as TotalKind {
     type Entry = Access;
 
@@ -41,8 +49,9 @@ pub impl Kind for Total as TotalKind {
         if entry.cycles < LEAST_CYCLES || entry.cycles > MOST_CYCLES {
             return None;
         }
-        let sum = i64::from(entry.hits) * i64::from(entry.cycles);
-        Some(Total { sum })
+        Some(Total {
+            sum: product(entry.hits, entry.cycles),
+        })
     }
 
     // A sum past 64 bits stays at the nearest that fits; no 1,024 entries reach so far.

@@ -9,5 +9,5 @@ returns g c =
     (c .in-Continue-block-map .ensures tt ∙ ap (M .score) (c .at .ensures))
     (c .in-Continue-journal .ensures tt ∙ ap (M .score) (c .at-2 .ensures))
     (c .in-Continue-pair .ensures tt ∙ ap (M .score) (c .pair-at .ensures))
-    (c .join .ensures .exact)
-    (c .join-2 .ensures .exact)
+    (λ t. ap (g .K·Kind .means) (c .join .ensures) ∙ g .K·Kind·met .exact _ _ t)
+    (λ t. ap (g .K·Kind .means) (c .join-2 .ensures) ∙ g .K·Kind·met .exact _ _ t)
