@@ -11,6 +11,7 @@ use Rattle.std.specs.declared.option.Option.the-variants.{Some, None}
 use Rattle.std.proofs.shelf.Tests.{and-parts, ltb-true, eqb-false, not-true}
 use Rattle.std.proofs.shelf.Ways.{tells}
 use Rattle.score.specs.Model.{Model}
+use Rattle.calls.specs.declared.changes.Change.{Change}
 use Rattle.calls.specs.declared.changes.Change.the-variants.{One, Pair, Pin, Free}
 use Rattle.calls.specs.declared.changes.Four.{Four}
 use Rattle.calls.specs.Questions.{View, Question, first-no, change-questions, takes, takes-four, most-changes, most-pairs}
@@ -62,3 +63,10 @@ module _ {E S : Type 0} (M : Model E S) (w : View) where
         room = ltb-true (w .standing) most-changes (yes′ .1 .1 .1 .0);
         place = yes′ .1 .1 .1 .1 .0;
       }
+
+  -- every accepted change found room in the history
+  pub change-room : (c : Change E) → first-no (change-questions M w c) ≡ None → w .standing < most-changes
+  change-room (One v z o) h = one-passed v z o h .room
+  change-room (Pair a b es) h = pair-passed a b es h .room
+  change-room (Pin v x) h = ltb-true (w .standing) most-changes (all-yes (change-questions M w (Pin v x)) h .1 .1 .1 .0)
+  change-room (Free v) h = ltb-true (w .standing) most-changes (all-yes (change-questions M w (Free v)) h .1 .1 .0)

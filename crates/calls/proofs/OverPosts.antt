@@ -101,6 +101,21 @@ module _ {E S : Type 0} (M : Model E S) where
   unkept-neutral (more cs (Pin v z)) k x y h = unkept-neutral cs k x y h
   unkept-neutral (more cs (Free v)) k x y h = unkept-neutral cs k x y h
 
+-- each variable that is posted onto is one of the n
+abbrev pub In-range : {E : Type 0} → ℕ → Standing E → Type 0
+In-range n fresh = Unit {0}
+In-range n (more cs (One v z o)) = In-range n cs × (v < n)
+In-range n (more cs (Pair a b es)) = In-range n cs
+In-range n (more cs (Pin v x)) = In-range n cs
+In-range n (more cs (Free v)) = In-range n cs
+
+pub valid-in-range : {E S : Type 0} (M : Model E S) (n : ℕ) (cs : Standing E) → Valid M n cs → In-range n cs
+valid-in-range M n fresh h = tt
+valid-in-range M n (more cs (One v z o)) h = (valid-in-range M n cs (h .0), one-passed M (view-of n cs) v z o (h .1) .below)
+valid-in-range M n (more cs (Pair a b es)) h = valid-in-range M n cs (h .0)
+valid-in-range M n (more cs (Pin v x)) h = valid-in-range M n cs (h .0)
+valid-in-range M n (more cs (Free v)) h = valid-in-range M n cs (h .0)
+
 module _ {E S : Type 0} (M : Model E S) (laws : Laws M) where
   -- scores joined on at the elements that pass a test
   abbrev touched : {X : Type 0} → (X → Bool) → (X → S) → (X → S) → X → S
@@ -180,15 +195,15 @@ module _ {E S : Type 0} (M : Model E S) (laws : Laws M) where
           ∙ ap (λ x. M .join x (M .join (touched (same-key (key a b)) s f (key a b)) (M .neutral))) (joined-untouched (same-key (key a b)) s f (kept-pairs cs) (kept-once cs (key a b) ∙ cond-false _ 1 0 e))
           ∙ ap (M .join (joined M (map f (kept-pairs cs)))) (unit-right M laws _ ∙ last e)
 
-  pub over-posts : Over-posts M
-  over-posts n fresh valid L =
+  pub over-posts-within : (n : ℕ) (cs : Standing E) → In-range n cs → (L : ℕ → Bool) → layout-score M n cs L ≡ joined M (selected M cs L)
+  over-posts-within n fresh valid L =
       ap (joined M) (append-nil (map (λ v. M .neutral) (variables n))) ∙ neutrals (variables n)
     where
       neutrals : (xs : List ℕ) → joined M (map (λ v. M .neutral) xs) ≡ M .neutral
       neutrals [] = refl
       neutrals (x ∷ xs) = laws .unit _ ∙ neutrals xs
-  over-posts n (more cs (One v z o)) valid L =
-      let below = one-passed M (view-of n cs) v z o (valid .1) .below in
+  over-posts-within n (more cs (One v z o)) valid L =
+      let below = valid .1 in
       let post = score-of M (cond (L v) o z) in
       let once : how-many (eqb v) (variables n) ≡ 1 = once-below v n ∙ cond-true (ltb v n) 1 0 (lt-ltb v n below) in
       let here : (w : ℕ) → eqb v w ≡ true → score-of M (cond (L w) o z) ≡ post = λ w h. ap (λ u. score-of M (cond (L u) o z)) (sym (eqb-true v w h)) in
@@ -197,14 +212,17 @@ module _ {E S : Type 0} (M : Model E S) (laws : Laws M) where
       ∙ ap (λ s. M .join s (joined M (map (λ p. pair-score M cs p (L (p .0)) (L (p .1))) (kept-pairs cs)))) ones
       ∙ swap _ post _
       ∙ laws .comm _ post
-      ∙ ap (M .join post) (sym (joined-append M laws (map (λ w. one-score M cs w (L w)) (variables n)) _) ∙ over-posts n cs (valid .0) L)
-  over-posts n (more cs (Pair a b es)) valid L =
+      ∙ ap (M .join post) (sym (joined-append M laws (map (λ w. one-score M cs w (L w)) (variables n)) _) ∙ over-posts-within n cs (valid .0) L)
+  over-posts-within n (more cs (Pair a b es)) valid L =
       let post = score-of M (at-four es (L a) (L b)) in
       let ones = map (λ w. one-score M cs w (L w)) (variables n) in
       joined-append M laws ones _
       ∙ ap (M .join (joined M ones)) (pairs-joined cs a b es L)
       ∙ sym (laws .assoc (joined M ones) _ post)
       ∙ laws .comm _ post
-      ∙ ap (M .join post) (sym (joined-append M laws ones _) ∙ over-posts n cs (valid .0) L)
-  over-posts n (more cs (Pin v x)) valid L = over-posts n cs (valid .0) L
-  over-posts n (more cs (Free v)) valid L = over-posts n cs (valid .0) L
+      ∙ ap (M .join post) (sym (joined-append M laws ones _) ∙ over-posts-within n cs valid L)
+  over-posts-within n (more cs (Pin v x)) valid L = over-posts-within n cs valid L
+  over-posts-within n (more cs (Free v)) valid L = over-posts-within n cs valid L
+
+  pub over-posts : Over-posts M
+  over-posts n cs valid L = over-posts-within n cs (valid-in-range M n cs valid) L

@@ -111,5 +111,7 @@ pub record No-trace {E S : Type 0} (M : Model E S) (n : ℕ) (calls kept : Calls
   pub stands : standing M n kept ≡ standing M n calls
   pub replies : (next : Sent E) → reply-after M n kept next ≡ reply-after M n calls next
 
-abbrev pub Taking-back : {E S : Type 0} → Model E S → Type 0
-Taking-back {E} M = (n : ℕ) (calls kept : Calls E) → Struck M n calls kept → No-trace M n calls kept
+pub record Taking-back {E S : Type 0} (M : Model E S) : Type 0 where
+  -- from every list of calls something remains
+  pub some : (n : ℕ) (calls : Calls E) → (kept : Calls E) × Struck M n calls kept
+  pub same : (n : ℕ) (calls kept : Calls E) → Struck M n calls kept → No-trace M n calls kept
