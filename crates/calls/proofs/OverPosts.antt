@@ -38,18 +38,18 @@ once-below v (suc n) =
     let before = once-below v n in
     grind (arith, tells, rest, before)
 
-same-key-same : (p q : ℕ × ℕ) → same-key p q ≡ true → p ≡ q
+pub same-key-same : (p q : ℕ × ℕ) → same-key p q ≡ true → p ≡ q
 same-key-same p q h =
     let both = and-parts (eqb (p .0) (q .0)) (eqb (p .1) (q .1)) h in
     λ i. (eqb-true (p .0) (q .0) (both .0) i, eqb-true (p .1) (q .1) (both .1) i)
 
-same-key-refl : (p : ℕ × ℕ) → same-key p p ≡ true
+pub same-key-refl : (p : ℕ × ℕ) → same-key p p ≡ true
 same-key-refl p = and-from (eqb (p .0) (p .0)) (eqb (p .1) (p .1)) (eq-eqb (p .0) (p .0) refl) (eq-eqb (p .1) (p .1) refl)
 
-same-key-sym : (p q : ℕ × ℕ) → same-key p q ≡ same-key q p
+pub same-key-sym : (p q : ℕ × ℕ) → same-key p q ≡ same-key q p
 same-key-sym p q = grind (arith, tells)
 
-has-key-push : (k q : ℕ × ℕ) (ps : List (ℕ × ℕ)) → has-key k (ps ++ q ∷ []) ≡ (has-key k ps || same-key k q)
+pub has-key-push : (k q : ℕ × ℕ) (ps : List (ℕ × ℕ)) → has-key k (ps ++ q ∷ []) ≡ (has-key k ps || same-key k q)
 has-key-push k q [] = or-false (same-key k q)
 has-key-push k q (p ∷ ps) = ap (λ b. same-key k p || b) (has-key-push k q ps) ∙ sym (or-assoc (same-key k p) (has-key k ps) (same-key k q))
 
@@ -69,7 +69,7 @@ module _ {E : Type 0} where
       go false e = has-key-push k (key a b) (kept-pairs cs) ∙ ap (λ b. has-key k (kept-pairs cs) || b) (same-key-sym k (key a b))
 
   -- each kept pair is kept once
-  kept-once : (cs : Standing E) (k : ℕ × ℕ) → how-many (same-key k) (kept-pairs cs) ≡ cond (has-key k (kept-pairs cs)) 1 0
+  pub kept-once : (cs : Standing E) (k : ℕ × ℕ) → how-many (same-key k) (kept-pairs cs) ≡ cond (has-key k (kept-pairs cs)) 1 0
   kept-once fresh k = refl
   kept-once (more cs (One v z o)) k = kept-once cs k
   kept-once (more cs (Pair a b es)) k = go (has-key (key a b) (kept-pairs cs)) refl (kept-once cs k)

@@ -29,6 +29,10 @@ at-four f false true = f .at01
 at-four f true false = f .at10
 at-four f true true = f .at11
 
+-- the same four with the second variable first
+abbrev pub turned-four : {T : Type 0} → Four T → Four T
+turned-four f = record { at00 = f .at00; at01 = f .at10; at10 = f .at01; at11 = f .at11 }
+
 -- two variables, the lower first
 abbrev pub key : ℕ → ℕ → ℕ × ℕ
 key a b = (min a b, max a b)
