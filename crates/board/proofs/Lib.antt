@@ -1,1 +1,6 @@
+pub mod Elements
+pub mod Pairs
 pub mod Places
+pub mod Steps
+pub mod Vars
+pub mod Views
