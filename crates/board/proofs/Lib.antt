@@ -1,3 +1,4 @@
+pub mod Answered
 pub mod Elements
 pub mod Pairs
 pub mod Places

@@ -39,7 +39,7 @@ one-if t e = cond-true t 1 0 e
 none-if : (t : Bool) → t ≡ false → cond {A = ℕ} t 1 0 ≡ 0
 none-if t e = cond-false t 1 0 e
 
-length-take-most : {X : Type 0} (m : ℕ) (xs : List X) → length (take m xs) ≤ m
+pub length-take-most : {X : Type 0} (m : ℕ) (xs : List X) → length (take m xs) ≤ m
 length-take-most m xs = simp length-take (omega arith)
 
 all-getD-nth : {X : Type 0} (P : X → Type 0) (xs : List X) (i : ℕ) (x : X) → nth xs i ≡ Some x → All P xs → P x

@@ -1,4 +1,5 @@
 // The board over lent records.
+mod changing;
 mod questions;
 mod reading;
 mod writing;
