@@ -1,7 +1,7 @@
 -- What the calls that change a board promise. Assumes nothing.
 use mathlib.Core.Path.{_≡_, refl, sym, ap, subst, _∙_}
 use mathlib.Core.Bool.{Bool, true, false, not, _&&_, _||_, cond}
-use mathlib.Core.List.{List, map}
+use mathlib.Core.List.{List, [], _∷_, map}
 use Prim.Native.Nat.{ℕ, _<_, _≤_}
 use native.Mathlib.Omega.{arith}
 use lib.Dec.{eqb, ltb}
@@ -18,42 +18,62 @@ use Rattle.calls.specs.declared.changes.Change.{Change}
 use Rattle.calls.specs.declared.changes.Change.the-variants.{One, Pair as PairPost, Pin, Free}
 use Rattle.calls.specs.declared.changes.Four.{Four}
 use Rattle.calls.specs.declared.refusals.Refusal.{Refusal}
-use Rattle.calls.specs.Questions.{view-of, first-no, change-questions, most-pairs, most-changes}
+use Rattle.calls.specs.declared.refusals.Refusal.the-variants.{NoChange}
+use Rattle.calls.specs.Questions.{View, Question, view-of, first-no, change-questions, back-questions, most-pairs}
+use Rattle.calls.specs.Runs.{without-last}
 use Rattle.calls.specs.Standing.{Standing, more, count, kept-pairs, key, has-key}
 use Rattle.calls.proofs.Asked.{all-yes, one-passed, pair-passed}
 use Rattle.board.specs.declared.records.Var.{Var}
 use Rattle.board.specs.declared.records.Pair.{Pair}
 use Rattle.board.specs.declared.records.Was.the-variants.{Var as WasVar, Pair as WasPair, Unkept}
 use Rattle.board.specs.Joined.{joined-var, joined-pair, with-pin}
-use Rattle.board.specs.Stands.{Stands, Changed, Four-scored}
-use Rattle.board.specs.Tables.{Held, records-view, used, pair-key, replace-var, replace-pair, keep-pair, join-one, join-pair, set-pin, lower-first, undo-at, Place, At-place}
+use Rattle.board.specs.Stands.{Stands, Answered, Changed, Taken-back, Four-scored}
+use Rattle.board.specs.Tables.{Held, records-view, used, pair-key, replace-var, replace-pair, keep-pair, join-one, join-pair, set-pin, take-back, lower-first, undo-at, Place, At-place}
 use Rattle.board.proofs.Elements.{nth-below}
 use Rattle.board.proofs.Pairs.{onto-kept, newly-kept, length-take-most}
 use Rattle.board.proofs.Places.{nth-take}
-use Rattle.board.proofs.Steps.{stands-more}
+use Rattle.board.proofs.Steps.{stands-more, back-stands}
 use Rattle.board.proofs.Vars.{pinned, freed, posted}
 use Rattle.board.proofs.Views.{shows, asks-same}
 
-module _ {E S K : Type 0} (M : Model E S) (means : K → S) where
+-- asks: the questions; same: they have one answer on the records and on the list
+module _ {E S K : Type 0} (M : Model E S) (means : K → S) (asks : View → List Question) (next : Standing E → Standing E) (h : Held K)
+  (same : (n : ℕ) (cs : Standing E) → Stands M means n h cs → first-no (asks (records-view h)) ≡ first-no (asks (view-of n cs))) where
   -- turned down: nothing changed
-  pub turned-down : (h : Held K) (c : Change E) (f : Refusal) → Some f ≡ first-no (change-questions M (records-view h) c) → Changed M means h h c (Err f)
-  turned-down h c f e = record {
+  refused-so : (f : Refusal) → Some f ≡ first-no (asks (records-view h)) → Answered M means h h asks next (Err f)
+  refused-so f e = record {
     reply = e;
     refused = λ _. refl;
-    stands = λ n cs st. (e ∙ asks-same M means n h cs st c, λ ok. absurd (false≢true ok));
+    stands = λ n cs st. (e ∙ same n cs st, λ ok. absurd (false≢true ok));
   }
 
-  -- accepted: the change goes on at the end of every list at which the board stood
-  pub accepted : (h h′ made : Held K) (c : Change E) → None ≡ first-no (change-questions M (records-view h) c) → h′ ≡ made
-    → ((n : ℕ) (cs : Standing E) → Stands M means n h cs → first-no (change-questions M (view-of n cs) c) ≡ None → Stands M means n made (more cs c))
-    → Changed M means h h′ c (Ok tt)
-  accepted h h′ made c e is stands = record {
+  -- accepted: from every list at which the board stood it comes to the next
+  accepted-so : (h′ made : Held K) → None ≡ first-no (asks (records-view h)) → h′ ≡ made
+    → ((n : ℕ) (cs : Standing E) → Stands M means n h cs → first-no (asks (view-of n cs)) ≡ None → Stands M means n made (next cs))
+    → Answered M means h h′ asks next (Ok tt)
+  accepted-so h′ made e is stands = record {
     reply = e;
     refused = λ no′. absurd (true≢false no′);
-    stands = λ n cs st.
-      let asks = asks-same M means n h cs st c in
-      (e ∙ asks, λ _. subst (λ x. Stands M means n x (more cs c)) (sym is) (stands n cs st (sym (e ∙ asks))));
+    stands = λ n cs st. (e ∙ same n cs st, λ _. subst (λ x. Stands M means n x (next cs)) (sym is) (stands n cs st (sym (e ∙ same n cs st))));
   }
+
+module _ {E S K : Type 0} (M : Model E S) (means : K → S) (h : Held K) where
+  pub turned-down : (c : Change E) (f : Refusal) → Some f ≡ first-no (change-questions M (records-view h) c) → Changed M means h h c (Err f)
+  turned-down c = refused-so M means (λ w. change-questions M w c) (λ cs. more cs c) h (λ n cs st. asks-same M means n h cs st c)
+
+  pub accepted : (h′ made : Held K) (c : Change E) → None ≡ first-no (change-questions M (records-view h) c) → h′ ≡ made
+    → ((n : ℕ) (cs : Standing E) → Stands M means n h cs → first-no (change-questions M (view-of n cs) c) ≡ None → Stands M means n made (more cs c))
+    → Changed M means h h′ c (Ok tt)
+  accepted h′ made c = accepted-so M means (λ w. change-questions M w c) (λ cs. more cs c) h (λ n cs st. asks-same M means n h cs st c) h′ made
+
+  back-same : (n : ℕ) (cs : Standing E) → Stands M means n h cs → first-no (back-questions (records-view h)) ≡ first-no (back-questions (view-of n cs))
+  back-same n cs st = ap (λ m. first-no ((ltb 0 m, NoChange) ∷ [])) (st .standing-is)
+
+  pub back-turned-down : (f : Refusal) → Some f ≡ first-no (back-questions (records-view h)) → Taken-back M means h h (Err f)
+  back-turned-down = refused-so M means back-questions without-last h back-same
+
+  pub back-accepted : (h′ : Held K) → None ≡ first-no (back-questions (records-view h)) → h′ ≡ take-back h → Taken-back M means h h′ (Ok tt)
+  back-accepted h′ e is = accepted-so M means back-questions without-last h back-same h′ (take-back h) e is (λ n cs st pass. back-stands M means n h cs st (ltb-true 0 (count cs) (all-yes (back-questions (view-of n cs)) pass .0)))
 
 module _ {E S K : Type 0} (M : Model E S) (laws : Laws M) (means : K → S) where
   module _ (n : ℕ) (h : Held K) (cs : Standing E) (st : Stands M means n h cs) where

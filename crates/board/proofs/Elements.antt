@@ -31,12 +31,12 @@ module _ {X : Type 0} where
   set-back (y ∷ ys) zero old new h = let e : y ≡ old = cc in ap (λ z. z ∷ ys) (sym e)
   set-back (y ∷ ys) (suc i) old new h = ap (λ zs. y ∷ zs) (set-back ys i old new h)
 
-  pub take-set-below : (xs : List X) (n i : ℕ) (x : X) → i < n → take n (set xs i x) ≡ set (take n xs) i x
-  take-set-below [] zero i x h = refl
-  take-set-below [] (suc n) i x h = refl
-  take-set-below (y ∷ ys) zero i x h = absurd (omega (arith, h))
-  take-set-below (y ∷ ys) (suc n) zero x h = refl
-  take-set-below (y ∷ ys) (suc n) (suc i) x h = ap (λ zs. y ∷ zs) (take-set-below ys n i x (omega (arith, h)))
+  pub take-set : (xs : List X) (n i : ℕ) (x : X) → take n (set xs i x) ≡ set (take n xs) i x
+  take-set [] zero i x = refl
+  take-set [] (suc n) i x = refl
+  take-set (y ∷ ys) zero i x = refl
+  take-set (y ∷ ys) (suc n) zero x = refl
+  take-set (y ∷ ys) (suc n) (suc i) x = ap (λ zs. y ∷ zs) (take-set ys n i x)
 
   -- the last element taken off again
   pub take-pushed : (xs : List X) (x : X) → take (length (xs ++ x ∷ []) - 1) (xs ++ x ∷ []) ≡ xs

@@ -28,7 +28,7 @@ use Rattle.board.specs.declared.records.Was.the-variants.{Pair as WasPair, Unk
 use Rattle.board.specs.Joined.{joined-four, joined-pair}
 use Rattle.board.specs.Stands.{Tables, tables-of, Var-shows, Pair-shows, Shows, Stands, Four-scored}
 use Rattle.board.specs.Tables.{Held, used, pair-key, replace-pair, keep-pair, lower-first, undo-at}
-use Rattle.board.proofs.Elements.{nth-below, set-back, take-set-below, take-pushed}
+use Rattle.board.proofs.Elements.{set-back, take-set, take-pushed}
 use Rattle.board.proofs.Steps.{Written}
 use Rattle.board.proofs.Vars.{joined-exactly}
 use Rattle.board.proofs.Views.{shows}
@@ -157,11 +157,9 @@ module _ {E S K : Type 0} (M : Model E S) (laws : Laws M) (means : K → S) (J :
     → Written M means n h (replace-pair h i old (joined-pair J old (lower-first a b f))) cs (PairPost a b es) (undo-at i (WasPair old))
   onto-kept i old has there is =
       let new = joined-pair J old (lower-first a b f) in
-      let inside : i < length (used h) = nth-below (used h) i old there in
-      let below : i < h .kept = omega (arith, inside, length-take-most (h .kept) (h .pairs)) in
       let kept : has-key (key a b) (kept-pairs cs) ≡ true = sym (ap (has-key (key a b)) (before .keys)) ∙ has in
       let same : kept-pairs (more cs (PairPost a b es)) ≡ kept-pairs cs = cond-true (has-key (key a b) (kept-pairs cs)) (kept-pairs cs) _ kept in
-      let used-is : take (h .kept) (set (h .pairs) i new) ≡ set (used h) i new = take-set-below (h .pairs) (h .kept) i new below in
+      let used-is : take (h .kept) (set (h .pairs) i new) ≡ set (used h) i new = take-set (h .pairs) (h .kept) i new in
       let old-same : same-key (key a b) (pair-key old) ≡ true = subst (λ k. same-key (key a b) k ≡ true) (sym is) (same-key-refl (key a b)) in
       let shown = all-getD-nth (Pair-shows M means n cs) (used h) i old there (before .pairs) in
       record {

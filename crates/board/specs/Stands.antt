@@ -5,6 +5,7 @@ use mathlib.Core.List.{List, map}
 use Prim.Native.Nat.{ℕ, _-_, _<_, _≤_}
 use lib.ListN.{length, set, take}
 use Rattle.std.specs.Results.{isOk}
+use Rattle.std.specs.Vec.{made}
 use Rattle.std.specs.shelf.Lists.{All}
 use Rattle.std.specs.shelf.Maps.{nth}
 use Rattle.std.specs.declared.option.Option.{Option}
@@ -16,8 +17,9 @@ use Rattle.calls.specs.declared.changes.Change.{Change}
 use Rattle.calls.specs.declared.changes.Four.{Four}
 use Rattle.calls.specs.declared.refusals.Refusal.{Refusal}
 use Rattle.calls.specs.Posts.{Valid}
-use Rattle.calls.specs.Questions.{view-of, first-no, change-questions, takes-four, most-variables, most-pairs, most-changes}
-use Rattle.calls.specs.Standing.{Standing, fresh, more, count, at-four, kept-pairs, pin-of, one-score, pair-score}
+use Rattle.calls.specs.Questions.{View, Question, view-of, first-no, change-questions, back-questions, score-questions, takes-four, most-variables, most-pairs, most-changes}
+use Rattle.calls.specs.Standing.{Standing, fresh, more, count, at-four, kept-pairs, pin-of, one-score, pair-score, layout-score}
+use Rattle.calls.specs.Runs.{without-last, values}
 use Rattle.board.specs.declared.records.Pair.{Pair}
 use Rattle.board.specs.declared.records.Undo.{Undo}
 use Rattle.board.specs.declared.records.Var.{Var}
@@ -79,13 +81,27 @@ abbrev pub refusal-in : {T : Type 0} → Result T Refusal → Option Refusal
 refusal-in (Ok x) = None
 refusal-in (Err f) = Some f
 
--- What a change promises. Which refusal comes is said over the records, whatever they hold; turned down, it leaves every record and count
--- as found; and for every list at which the board stands, the refusal is that of the list, and accepted, the change goes on at its end.
-pub record Changed {E S K : Type 0} (M : Model E S) (means : K → S) (before after : Held K) (c : Change E) (r : Result (Unit {0}) Refusal) : Type 0 where
-  pub reply : refusal-in r ≡ first-no (change-questions M (records-view before) c)
+-- What a call that may change the board promises. Which refusal comes is said over the records, whatever they hold; turned down, it leaves every
+-- record and count as found; and for every list at which the board stands, the refusal is that of the list, and accepted, the board stands at the next.
+pub record Answered {E S K : Type 0} (M : Model E S) (means : K → S) (before after : Held K) (asks : View → List Question) (next : Standing E → Standing E) (r : Result (Unit {0}) Refusal) : Type 0 where
+  pub reply : refusal-in r ≡ first-no (asks (records-view before))
   pub refused : isOk r ≡ false → after ≡ before
   pub stands : (n : ℕ) (cs : Standing E) → Stands M means n before cs
-    → (refusal-in r ≡ first-no (change-questions M (view-of n cs) c)) × (isOk r ≡ true → Stands M means n after (more cs c))
+    → (refusal-in r ≡ first-no (asks (view-of n cs))) × (isOk r ≡ true → Stands M means n after (next cs))
+
+-- a change goes on at the end of the list
+abbrev pub Changed : {E S K : Type 0} → Model E S → (K → S) → Held K → Held K → Change E → Result (Unit {0}) Refusal → Type 0
+Changed M means before after c r = Answered M means before after (λ w. change-questions M w c) (λ cs. more cs c) r
+
+-- a back takes the last change away
+abbrev pub Taken-back : {E S K : Type 0} → Model E S → (K → S) → Held K → Held K → Result (Unit {0}) Refusal → Type 0
+Taken-back M means before after r = Answered M means before after back-questions without-last r
+
+-- a score is that of the layout, and the board is asked only
+pub record Scored {E S K : Type 0} (M : Model E S) (means : K → S) (h : Held K) (layout : List ℕ) (r : Result K Refusal) : Type 0 where
+  pub reply : refusal-in r ≡ first-no (score-questions (records-view h) layout)
+  pub stands : (n : ℕ) (cs : Standing E) → Stands M means n h cs
+    → (refusal-in r ≡ first-no (score-questions (view-of n cs) layout)) × made r (λ s. means s ≡ layout-score M n cs (values layout))
 
 -- four entries have these scores
 abbrev pub Four-scored : {E S K : Type 0} → Model E S → (K → S) → Four E → Four K → Type 0

@@ -91,6 +91,10 @@ put-back h u = elim (u .was) [
   | Unkept ↦ record { vars = h .vars; pairs = h .pairs; history = h .history; n = h .n; kept = h .kept - 1; standing = h .standing - 1 }
   ]
 
+-- the newest change is taken back
+abbrev pub take-back : {K : Type 0} → Held K → Held K
+take-back h = elim (nth (h .history) (h .standing - 1)) [ None ↦ h | Some u ↦ put-back h u ]
+
 -- J: what a join of two held scores holds
 module _ {K : Type 0} (J : K → K → K) where
   -- two scores are joined onto a variable's

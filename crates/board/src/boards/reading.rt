@@ -10,19 +10,19 @@ use crate::records::Var;
 use score::interface::Kind;
 
 impl<'a, K: Kind> Board<'a, K> {
-    pub(super) fn var(&self, v: usize) -> Option<Var<K>>
+    pub(super) fn var_at(&self, v: usize) -> Option<Var<K>>
         ensures { λ r. ⌜ r ≡ nth (held (now (self .entry)) .vars) v ⌝ }
     {
         read(self.vars, v)
     }
 
-    pub(super) fn pair(&self, at: usize) -> Option<Pair<K>>
+    pub(super) fn pair_at(&self, at: usize) -> Option<Pair<K>>
         ensures { λ r. ⌜ r ≡ nth (held (now (self .entry)) .pairs) at ⌝ }
     {
         read(self.pairs, at)
     }
 
-    pub(super) fn undo(&self, at: usize) -> Option<Undo<K>>
+    pub(super) fn undo_at(&self, at: usize) -> Option<Undo<K>>
         ensures { λ r. ⌜ r ≡ nth (held (now (self .entry)) .history) at ⌝ }
     {
         read(self.history, at)
@@ -31,6 +31,6 @@ impl<'a, K: Kind> Board<'a, K> {
     pub(super) fn pin_of(&self, v: usize) -> Option<bool>
         ensures { λ r. ⌜ r ≡ records-view (held (now (self .entry))) .pin v ⌝ }
     {
-        self.var(v)?.pin
+        self.var_at(v)?.pin
     }
 }

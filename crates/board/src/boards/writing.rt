@@ -64,7 +64,7 @@ impl<'a, K: Kind> Board<'a, K> {
         requires { ⌜ now self .standing < most-changes ⌝ }
         ensures { λ _. ⌜ held (now (self .exit)) ≡ join-one (K·Kind .held) (held (now (self .entry))) v zero one ⌝ }
     {
-        if let Some(old) = self.var(v) {
+        if let Some(old) = self.var_at(v) {
             self.replace_var(v, old, old.joined(zero, one));
         }
     }
@@ -73,7 +73,7 @@ impl<'a, K: Kind> Board<'a, K> {
         requires { ⌜ now self .standing < most-changes ⌝ }
         ensures { λ _. ⌜ held (now (self .exit)) ≡ set-pin (held (now (self .entry))) v pin ⌝ }
     {
-        if let Some(old) = self.var(v) {
+        if let Some(old) = self.var_at(v) {
             self.replace_var(v, old, old.with_pin(pin));
         }
     }
@@ -84,7 +84,7 @@ impl<'a, K: Kind> Board<'a, K> {
     {
         match place {
             Some(at) => {
-                if let Some(old) = self.pair(at) {
+                if let Some(old) = self.pair_at(at) {
                     self.replace_pair(at, old, old.joined(scores));
                 }
             }
