@@ -1,12 +1,18 @@
 // The calls that change a board.
+ghost use mathlib.Core.Path.{_≡_};
 ghost use Rattle.calls.specs.declared.changes.Change.the-variants.{One, Pair, Pin, Free};
-ghost use Rattle.board.specs.Stands.{Changed};
-ghost use Rattle.board.specs.Tables.{held};
+ghost use Rattle.board.specs.Stands.{Changed, Taken-back};
+ghost use Rattle.board.specs.Tables.{held, lower-first};
 use super::Board;
-use calls::changes::Change;
 use calls::changes::Four;
 use calls::refusals::Refusal;
 use score::interface::Kind;
+
+fn lower_first<K: Copy>(a: u32, b: u32, scores: Four<K>) -> Four<K>
+    ensures { λ r. ⌜ r ≡ lower-first a b scores ⌝ }
+{
+    if a < b { scores } else { scores.turned() }
+}
 
 impl<'a, K: Kind> Board<'a, K> {
     // Joins two entries onto a variable's scores, at 0 and at 1.
@@ -15,6 +21,15 @@ impl<'a, K: Kind> Board<'a, K> {
     {
         let post = self.check_one(v, zero, one)?;
         self.join_one(v as usize, post.zero, post.one);
+        Ok(())
+    }
+
+    // Joins four entries onto the scores of a pair, or keeps the pair. A post that names the higher variable first is turned.
+    pub fn pair(&mut self, a: u32, b: u32, entries: Four<K::Entry>) -> Result<(), Refusal>
+        ensures { λ r. ⌜ Changed (K·Kind .model) (K·Kind .means) (held (now (self .entry))) (held (now (self .exit))) (Pair a b entries) r ⌝ }
+    {
+        let post = self.check_pair(a, b, entries)?;
+        self.join_pair(a.min(b), a.max(b), lower_first(a, b, post.scores), post.place);
         Ok(())
     }
 
@@ -33,6 +48,15 @@ impl<'a, K: Kind> Board<'a, K> {
     {
         self.check_free(v)?;
         self.set_pin(v as usize, None);
+        Ok(())
+    }
+
+    // Takes the newest change back.
+    pub fn back(&mut self) -> Result<(), Refusal>
+        ensures { λ r. ⌜ Taken-back (K·Kind .model) (K·Kind .means) (held (now (self .entry))) (held (now (self .exit))) r ⌝ }
+    {
+        self.check_back()?;
+        self.take_back();
         Ok(())
     }
 }

@@ -4,7 +4,7 @@ ghost use mathlib.Core.Bool.{cond};
 ghost use Rattle.std.specs.declared.option.Option.the-variants.{Some, None};
 ghost use Rattle.std.specs.Vec.{made};
 ghost use Rattle.calls.specs.declared.changes.Change.the-variants.{One, Pair, Pin, Free};
-ghost use Rattle.calls.specs.Questions.{first-no, change-questions};
+ghost use Rattle.calls.specs.Questions.{first-no, change-questions, back-questions};
 ghost use Rattle.board.specs.Stands.{refusal-in, Four-taken, Four-scored};
 ghost use Rattle.calls.specs.Standing.{key};
 ghost use Rattle.board.specs.Tables.{held, records-view, used, Place};
@@ -91,5 +91,11 @@ impl<'a, K: Kind> Board<'a, K> {
         ask((v as usize) < self.n, Refusal::NoVariable)?;
         ask(self.pin_of(v as usize).is_some(), Refusal::NotPinned)?;
         ask(self.standing < MOST_CHANGES, Refusal::HistoryFull)
+    }
+
+    pub(super) fn check_back(&self) -> Result<(), Refusal>
+        ensures { λ r. ⌜ refusal-in r ≡ first-no (back-questions (records-view (held (now (self .entry))))) ⌝ }
+    {
+        ask(0 < self.standing, Refusal::NoChange)
     }
 }

@@ -4,7 +4,7 @@ ghost use mathlib.Core.Bool.{false};
 ghost use Prim.Native.Nat.{_<_};
 ghost use Rattle.std.specs.Options.{isSome};
 ghost use Rattle.calls.specs.Questions.{most-changes, most-pairs};
-ghost use Rattle.board.specs.Tables.{held, replace-var, replace-pair, keep-pair, put-back, join-one, join-pair, set-pin};
+ghost use Rattle.board.specs.Tables.{held, replace-var, replace-pair, keep-pair, put-back, take-back, join-one, join-pair, set-pin};
 use super::Board;
 use crate::access::write;
 use crate::records::Pair;
@@ -89,6 +89,15 @@ impl<'a, K: Kind> Board<'a, K> {
                 }
             }
             None => self.keep_pair(Pair { low, high, scores }),
+        }
+    }
+
+    pub(super) fn take_back(&mut self)
+        ensures { λ _. ⌜ held (now (self .exit)) ≡ take-back (held (now (self .entry))) ⌝ }
+    {
+        let newest = self.standing.saturating_sub(1);
+        if let Some(undo) = self.undo_at(newest) {
+            self.restore(undo);
         }
     }
 }

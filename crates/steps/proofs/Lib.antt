@@ -1,0 +1,13 @@
+pub mod Joins
+pub mod Choices
+pub mod Sheets
+pub mod Counting
+pub mod Removals
+pub mod Explorations
+pub mod Once
+pub mod Run
+pub mod Splits
+pub mod Starts
+pub mod Entries
+pub mod Pins
+pub mod Worked
