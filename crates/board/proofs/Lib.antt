@@ -1,5 +1,6 @@
 pub mod Answered
 pub mod Elements
+pub mod Joining
 pub mod Pairs
 pub mod Places
 pub mod Steps

@@ -1,3 +1,5 @@
 pub mod Joined
+pub mod Scoring
+pub mod ScoringBoard
 pub mod Stands
 pub mod Tables

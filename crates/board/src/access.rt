@@ -25,6 +25,17 @@ pub(crate) fn write<T: Copy>(items: &mut [T], at: usize, item: T)
     }
 }
 
+// The first `n` elements, or all where there are fewer.
+pub(crate) fn first<T>(items: &[T], n: usize) -> &[T]
+    ensures { λ r. ⌜ now r ≡ take n (now (items .entry)) ⌝ }
+{
+    if n < items.len() {
+        &items[0..n]
+    } else {
+        items
+    }
+}
+
 // Where the pair of two variables stands among the first `used` records.
 pub(crate) fn find<K: Copy>(pairs: &[Pair<K>], used: usize, low: u32, high: u32) -> Option<usize>
     ensures { λ r. ⌜ Place (low, high) (take used (now (pairs .entry))) r ⌝ }

@@ -2,6 +2,7 @@
 mod changing;
 mod questions;
 mod reading;
+mod scoring;
 mod writing;
 
 use crate::records::Pair;

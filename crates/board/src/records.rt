@@ -2,6 +2,7 @@
 ghost use mathlib.Core.Path.{_≡_};
 ghost use Rattle.calls.specs.Standing.{same-key};
 ghost use Rattle.board.specs.Joined.{joined-var, with-pin, joined-four, joined-pair};
+ghost use Rattle.board.specs.Scoring.{var-at};
 use calls::changes::Four;
 use calls::changes::FourClone;
 use score::interface::Kind;
@@ -15,6 +16,12 @@ pub struct Var<K> {
 }
 
 impl<K: Kind> Var<K> {
+    pub(crate) fn at(&self, one: bool) -> K
+        ensures { λ r. ⌜ r ≡ var-at (now (self .entry)) one ⌝ }
+    {
+        if one { self.one } else { self.zero }
+    }
+
     // With two more scores joined on.
     pub(crate) fn joined(self, zero: K, one: K) -> Var<K>
         ensures { λ r. ⌜ r ≡ joined-var (K·Kind .held) self zero one ⌝ }

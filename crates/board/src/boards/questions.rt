@@ -31,7 +31,7 @@ pub(super) struct PairPost<K> {
     pub place: Option<usize>,
 }
 
-fn ask(yes: bool, refusal: Refusal) -> Result<(), Refusal>
+pub(super) fn ask(yes: bool, refusal: Refusal) -> Result<(), Refusal>
     ensures { λ r. ⌜ refusal-in r ≡ cond yes None (Some refusal) ⌝ }
 {
     if yes { Ok(()) } else { Err(refusal) }
