@@ -1,6 +1,6 @@
 -- A running join of held scores, and the scores that a layout selects. Assumes nothing.
 use mathlib.Core.Path.{_≡_, refl, sym, ap, subst, _∙_}
-use mathlib.Core.Bool.{Bool, true, _&&_}
+use mathlib.Core.Bool.{Bool, true, false, _&&_}
 use mathlib.Core.List.{List, [], _∷_, _++_, map}
 use Prim.Native.Nat.{ℕ, _+_, _<_, _≤_}
 use native.Mathlib.Numerals.{add-one}
@@ -11,6 +11,7 @@ use Rattle.score.specs.Joins.{Joining}
 use Rattle.score.specs.Model.{Model, Laws, Together}
 use Rattle.score.proofs.Joins.{joining-together, joining-next}
 use Rattle.std.proofs.shelf.Lists.{drop-more, drop-all}
+use Rattle.std.proofs.shelf.Tests.{and-left}
 use Rattle.calls.specs.Questions.{all-values, keeps-pin, keeps-pins}
 use Rattle.calls.specs.Runs.{values}
 use Rattle.board.specs.declared.records.Pair.{Pair}
@@ -52,9 +53,17 @@ values-step layout i below = ap all-values (drop-more layout i 0 below)
 pub values-ended : (layout : List ℕ) (i : ℕ) → length layout ≤ i → all-values (drop i layout) ≡ true
 values-ended layout i past = ap all-values (drop-all i layout past)
 
-pub pins-step : (pin : ℕ → Option Bool) (layout : List ℕ) (i : ℕ) → i < length layout
-  → keeps-pins pin i (drop i layout) ≡ (keeps-pin (pin i) (getD layout i 0) && keeps-pins pin (i + 1) (drop (i + 1) layout))
-pins-step pin layout i below = ap (keeps-pins pin i) (drop-more layout i 0 below) ∙ (λ j. keeps-pin (pin i) (getD layout i 0) && keeps-pins pin (sym (add-one i) j) (drop (i + 1) layout))
+module _ (pin : ℕ → Option Bool) (layout : List ℕ) where
+  pins-step : (i : ℕ) → i < length layout → keeps-pins pin i (drop i layout) ≡ (keeps-pin (pin i) (getD layout i 0) && keeps-pins pin (i + 1) (drop (i + 1) layout))
+  pins-step i below = ap (keeps-pins pin i) (drop-more layout i 0 below) ∙ (λ j. keeps-pin (pin i) (getD layout i 0) && keeps-pins pin (sym (add-one i) j) (drop (i + 1) layout))
 
-pub pins-ended : (pin : ℕ → Option Bool) (layout : List ℕ) (i : ℕ) → length layout ≤ i → keeps-pins pin i (drop i layout) ≡ true
-pins-ended pin layout i past = ap (keeps-pins pin i) (drop-all i layout past)
+  pub pins-broken : (i : ℕ) (kept : Bool) → i < length layout → kept ≡ keeps-pin (pin i) (getD layout i 0) → kept ≡ false
+    → keeps-pins pin i (drop i layout) ≡ keeps-pins pin 0 layout → false ≡ keeps-pins pin 0 layout
+  pins-broken i kept below is not-kept whole = sym (and-left _ (keeps-pins pin (i + 1) (drop (i + 1) layout)) (sym is ∙ not-kept)) ∙ sym (pins-step i below) ∙ whole
+
+  pub pins-more : (i : ℕ) (kept : Bool) → i < length layout → kept ≡ keeps-pin (pin i) (getD layout i 0) → kept ≡ true
+    → keeps-pins pin i (drop i layout) ≡ keeps-pins pin 0 layout → keeps-pins pin (i + 1) (drop (i + 1) layout) ≡ keeps-pins pin 0 layout
+  pins-more i kept below is so whole = sym (ap (λ t. t && keeps-pins pin (i + 1) (drop (i + 1) layout)) (sym is ∙ so)) ∙ sym (pins-step i below) ∙ whole
+
+  pub pins-ended : (i : ℕ) → length layout ≤ i → keeps-pins pin i (drop i layout) ≡ keeps-pins pin 0 layout → true ≡ keeps-pins pin 0 layout
+  pins-ended i past whole = sym (ap (keeps-pins pin i) (drop-all i layout past)) ∙ whole

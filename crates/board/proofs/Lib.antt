@@ -3,6 +3,7 @@ pub mod Elements
 pub mod Joining
 pub mod Pairs
 pub mod Places
+pub mod Scores
 pub mod Steps
 pub mod Vars
 pub mod Views
