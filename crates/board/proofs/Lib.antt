@@ -4,6 +4,7 @@ pub mod Joining
 pub mod Pairs
 pub mod Places
 pub mod Scores
+pub mod Sends
 pub mod Steps
 pub mod Vars
 pub mod Views

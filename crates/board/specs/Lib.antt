@@ -1,5 +1,6 @@
 pub mod Joined
 pub mod Scoring
 pub mod ScoringBoard
+pub mod Sending
 pub mod Stands
 pub mod Tables

@@ -3,6 +3,7 @@ mod changing;
 mod questions;
 mod reading;
 mod scoring;
+mod sending;
 mod writing;
 
 use crate::records::Pair;
