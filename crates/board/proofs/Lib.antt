@@ -1,6 +1,7 @@
 pub mod Answered
 pub mod Elements
 pub mod Joining
+pub mod Opens
 pub mod Pairs
 pub mod Places
 pub mod Scores

@@ -1,4 +1,6 @@
+pub mod Fresh
 pub mod Joined
+pub mod Opening
 pub mod Scoring
 pub mod ScoringBoard
 pub mod Sending

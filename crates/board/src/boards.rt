@@ -1,5 +1,6 @@
 // The board over lent records.
 mod changing;
+mod opening;
 mod questions;
 mod reading;
 mod scoring;

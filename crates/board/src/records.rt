@@ -2,6 +2,7 @@
 ghost use mathlib.Core.Path.{_≡_};
 ghost use Rattle.calls.specs.Standing.{same-key};
 ghost use Rattle.board.specs.Joined.{joined-var, with-pin, joined-four, joined-pair};
+ghost use Rattle.board.specs.Fresh.{Fresh};
 ghost use Rattle.board.specs.Scoring.{var-at};
 use calls::changes::Four;
 use calls::changes::FourClone;
@@ -16,6 +17,17 @@ pub struct Var<K> {
 }
 
 impl<K: Kind> Var<K> {
+    // Neutral scores, and no pin.
+    pub fn fresh() -> Var<K>
+        ensures { λ r. ⌜ Fresh (K·Kind .model) (K·Kind .means) r ⌝ }
+    {
+        Var {
+            zero: K::neutral(),
+            one: K::neutral(),
+            pin: None,
+        }
+    }
+
     pub(crate) fn at(&self, one: bool) -> K
         ensures { λ r. ⌜ r ≡ var-at (now (self .entry)) one ⌝ }
     {
