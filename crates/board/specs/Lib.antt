@@ -1,3 +1,4 @@
+pub mod Answers
 pub mod Fresh
 pub mod Joined
 pub mod Opening

@@ -1,6 +1,8 @@
 // Why a call is turned down.
 ghost use mathlib.Core.Path.{_≡_};
-ghost use Rattle.calls.specs.Refusals.{refusal-number};
+ghost use Rattle.std.specs.declared.option.Option.the-variants.{Some};
+ghost use Rattle.calls.specs.Refusals.{refusal-number, refusal-text};
+use std::fmt;
 
 #[derive(Clone, Copy)]
 pub enum Refusal {
@@ -51,5 +53,14 @@ impl Refusal {
             Refusal::HistoryFull => 12,
             Refusal::PairsFull => 13,
         }
+    }
+}
+
+pub impl fmt::Display for Refusal as RefusalDisplay {
+    ghost shown = { λ f. Some (refusal-text f) };
+
+    fn fmt<W: fmt::Write>(&self, f: &mut fmt::Formatter<W>) -> fmt::Result {
+        let number = self.number();
+        write!(f, "no,{number}")
     }
 }
