@@ -2,7 +2,7 @@
 ghost use mathlib.Core.Path.{_≡_};
 ghost use Rattle.calls.specs.Standing.{same-key};
 ghost use Rattle.board.specs.Joined.{joined-var, with-pin, joined-four, joined-pair};
-ghost use Rattle.board.specs.Fresh.{Fresh};
+ghost use Rattle.board.specs.Fresh.{Fresh, unused-pair, unused-undo};
 ghost use Rattle.board.specs.Scoring.{var-at};
 use calls::changes::Four;
 use calls::changes::FourClone;
@@ -74,6 +74,22 @@ impl<K> Pair<K> {
 }
 
 impl<K: Kind> Pair<K> {
+    // A record to lend, of no pair yet.
+    pub fn unused() -> Pair<K>
+        ensures { λ r. ⌜ unused-pair (K·Kind .model) (K·Kind .means) r ⌝ }
+    {
+        Pair {
+            low: 0,
+            high: 0,
+            scores: Four {
+                at00: K::neutral(),
+                at01: K::neutral(),
+                at10: K::neutral(),
+                at11: K::neutral(),
+            },
+        }
+    }
+
     // With four more scores joined on.
     pub(crate) fn joined(self, scores: Four<K>) -> Pair<K>
         ensures { λ r. ⌜ r ≡ joined-pair (K·Kind .held) self scores ⌝ }
@@ -105,4 +121,16 @@ pub enum Was<K> {
 pub struct Undo<K> {
     pub at: usize,
     pub was: Was<K>,
+}
+
+impl<K> Undo<K> {
+    // A record to lend, of no change yet.
+    pub fn unused() -> Undo<K>
+        ensures { λ r. ⌜ r ≡ unused-undo ⌝ }
+    {
+        Undo {
+            at: 0,
+            was: Was::Unkept,
+        }
+    }
 }

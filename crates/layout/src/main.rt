@@ -1,115 +1,107 @@
-// Works one small example from beginning to end, for each kind of score, and prints what it did.
-mod tables;
-
+// Reads a listing from standard input, and answers each of its lines.
+use board::answers::AnswerDisplay;
+use board::boards::Board;
+use board::records::Pair;
+use board::records::PairClone;
+use board::records::Undo;
+use board::records::UndoClone;
+use board::records::Var;
+use board::records::VarClone;
+use calls::refusals::RefusalDisplay;
+use console::answer;
+use listing::commands::Opening;
+use listing::entries::AccessFields;
+use listing::entries::EntryFields;
+use listing::entries::SlackFields;
+use listing::entries::WeightedFields;
+use listing::faults::BadDisplay;
+use listing::parts::BoardKind;
+use listing::reader::Reader;
 use score::interface::Kind;
-use score::margins::Slack;
 use score::margins::Worst;
 use score::margins::WorstDisplay;
 use score::margins::WorstKind;
 use score::tiers::Tiered;
+use score::tiers::TieredClone;
 use score::tiers::TieredDisplay;
 use score::tiers::TieredKind;
-use score::tiers::Weighted;
-use score::totals::Access;
 use score::totals::Total;
 use score::totals::TotalDisplay;
 use score::totals::TotalKind;
-use std::error::AnyError;
 use std::fmt::Display;
-use tables::Banks;
-use tables::ByBank;
-use tables::Tables;
+use std::io;
+use std::io::Read;
 
-const LAYOUTS: [Banks; 4] = [
-    Banks {
-        block_map: false,
-        journal: false,
-    },
-    Banks {
-        block_map: false,
-        journal: true,
-    },
-    Banks {
-        block_map: true,
-        journal: false,
-    },
-    Banks {
-        block_map: true,
-        journal: true,
-    },
-];
+// One byte more than a listing may have.
+const MOST_BYTES: u64 = 65_537;
 
-fn access(hits: u32, cycles: i32) -> Access {
-    Access { hits, cycles }
+// Memory for one board.
+const VARIABLES: usize = 64;
+
+const PAIRS: usize = 256;
+
+const CHANGES: usize = 1_024;
+
+// Standard input, up to one byte more than a listing may have.
+fn input(rt: &LibcRuntime) -> io::Result<Vec<u8>> {
+    let mut text = Vec::new(rt.alloc());
+    rt.stdin().take(MOST_BYTES).read_to_end(&mut text)?;
+    Ok(text)
 }
 
-fn totals() -> Tables<Access> {
-    Tables {
-        block_map: ByBank {
-            zero: access(70_000, 3),
-            one: access(70_000, 5),
-        },
-        journal: ByBank {
-            zero: access(9_000, 40),
-            one: access(12_000, -2),
-        },
-        together: access(0, 0),
-        apart: access(131_072, 32_768),
+// Answers the lines after the first, on an open board.
+fn session<K: Kind + Display>(rt: &LibcRuntime, board: &mut Board<'_, K>, reader: &mut Reader<'_>) -> io::Result<()>
+where
+    K::Entry: EntryFields,
+{
+    for _ in 0..MOST_BYTES {
+        match reader.command::<K::Entry>() {
+            Ok(None) => return Ok(()),
+            Ok(Some(command)) => match answer(rt.alloc(), board, command)? {
+                Ok(reply) => println!(rt, "{reply}")?,
+                Err(refusal) => println!(rt, "{refusal}")?,
+            },
+            Err(fault) => {
+                let bad = fault.reply();
+                println!(rt, "{bad}")?;
+            }
+        }
     }
-}
-
-fn margins() -> Tables<Slack> {
-    Tables {
-        block_map: ByBank {
-            zero: Slack { margin: 120 },
-            one: Slack { margin: 90 },
-        },
-        journal: ByBank {
-            zero: Slack { margin: 200 },
-            one: Slack { margin: 100 },
-        },
-        together: Slack { margin: -35 },
-        apart: Slack { margin: 60 },
-    }
-}
-
-fn bank(one: bool) -> u8 {
-    if one { 1 } else { 0 }
-}
-
-fn name(rt: &impl Print, banks: Banks) -> Result<(), AnyError> {
-    let block_map = bank(banks.block_map);
-    let journal = bank(banks.journal);
-    print!(rt, "block map in bank {block_map}, journal in bank {journal}: ")?;
     Ok(())
 }
 
-// Scores the four layouts and prints each, and then the best.
-fn work<K: Kind + Display>(rt: &impl Print, kind: &str, tables: &Tables<K::Entry>) -> Result<(), AnyError> {
-    rt.println(kind)?;
-    for banks in LAYOUTS {
-        let Some(score) = tables::score_at::<K>(tables, banks) else {
-            return Err("an entry is not taken".into());
-        };
-        rt.print("  ")?;
-        name(rt, banks)?;
-        println!(rt, "{score}")?;
+// Opens a board of the first line's size, and answers that line and the others.
+fn run<K: Kind + Clone + Display>(rt: &LibcRuntime, variables: u32, reader: &mut Reader<'_>) -> io::Result<()>
+where
+    K::Entry: EntryFields,
+{
+    let heap = rt.alloc();
+    let mut vars = vec![in heap; Var::<K>::fresh(); VARIABLES]?;
+    let mut pairs = vec![in heap; Pair::<K>::unused(); PAIRS]?;
+    let mut history = vec![in heap; Undo::<K>::unused(); CHANGES]?;
+    match Board::check(variables, &vars, &pairs, &history) {
+        Ok(()) => println!(rt, "ok")?,
+        Err(refusal) => return println!(rt, "{refusal}"),
     }
-    let Some(best) = tables::best_layout::<K>(tables) else {
-        return Err("an entry is not taken".into());
+    let mut board = Board::open(variables, &mut vars, &mut pairs, &mut history);
+    session(rt, &mut board, reader)
+}
+
+fn main(rt: LibcRuntime) -> io::Result<()> {
+    let text = input(&rt)?;
+    let (opening, mut reader) = match Reader::open(&text) {
+        Ok(Some(opened)) => opened,
+        Ok(None) => return Ok(()),
+        Err(fault) => {
+            let bad = fault.reply();
+            return println!(rt, "{bad}");
+        }
     };
-    rt.print("  best: ")?;
-    name(rt, best.banks)?;
-    let score = best.score;
-    println!(rt, "{score}")?;
-    Ok(())
-}
-
-fn run(rt: &impl Print) -> Result<(), AnyError> {
-    work::<Total>(rt, "total", &totals())?;
-    work::<Worst>(rt, "worst margin", &margins())
-}
-
-fn main(rt: LibcRuntime) -> Result<(), AnyError> {
-    rt.report(run(&rt))
+    let Opening { variables, kind } = opening;
+    match kind {
+        BoardKind::Total => run::<Total>(&rt, variables, &mut reader),
+        BoardKind::Worst => run::<Worst>(&rt, variables, &mut reader),
+        BoardKind::TieredTotal => run::<Tiered<Total>>(&rt, variables, &mut reader),
+        BoardKind::TieredWorst => run::<Tiered<Worst>>(&rt, variables, &mut reader),
+    }
 }
