@@ -11,6 +11,7 @@ use Rattle.std.specs.Results.{isOk}
 use Rattle.std.specs.shelf.Maps.{nth}
 use Rattle.std.specs.declared.option.Option.{Option}
 use Rattle.std.specs.declared.option.Option.the-variants.{Some, None}
+use Rattle.std.specs.declared.result.Result.{Result}
 use Rattle.std.specs.declared.result.Result.the-variants.{Ok, Err}
 use Rattle.std.proofs.shelf.Tests.{ltb-true, true≢false, false≢true}
 use Rattle.score.specs.Model.{Model, Laws, Together}
@@ -27,7 +28,7 @@ use Rattle.board.specs.declared.records.Var.{Var}
 use Rattle.board.specs.declared.records.Pair.{Pair}
 use Rattle.board.specs.declared.records.Was.the-variants.{Var as WasVar, Pair as WasPair, Unkept}
 use Rattle.board.specs.Joined.{joined-var, joined-pair, with-pin}
-use Rattle.board.specs.Stands.{Stands, Answered, Changed, Taken-back, Four-scored}
+use Rattle.board.specs.Stands.{Stands, refusal-in, Answered, Changed, Taken-back, Four-scored}
 use Rattle.board.specs.Tables.{Held, records-view, used, pair-key, replace-var, replace-pair, keep-pair, join-one, join-pair, set-pin, take-back, lower-first, undo-at, Place, At-place}
 use Rattle.board.proofs.Elements.{nth-below}
 use Rattle.board.proofs.Pairs.{onto-kept, newly-kept, length-take-most}
@@ -65,6 +66,13 @@ module _ {E S K : Type 0} (M : Model E S) (means : K → S) (h : Held K) where
     → ((n : ℕ) (cs : Standing E) → Stands M means n h cs → first-no (change-questions M (view-of n cs) c) ≡ None → Stands M means n made (more cs c))
     → Changed M means h h′ c (Ok tt)
   accepted h′ made c = accepted-so M means (λ w. change-questions M w c) (λ cs. more cs c) h (λ n cs st. asks-same M means n h cs st c) h′ made
+
+  -- a write that is made only where the reply is `Ok`
+  pub changed-when : (h′ made : Held K) (c : Change E) (r : Result (Unit {0}) Refusal) → refusal-in r ≡ first-no (change-questions M (records-view h) c) → h′ ≡ cond (isOk r) made h
+    → ((n : ℕ) (cs : Standing E) → Stands M means n h cs → first-no (change-questions M (view-of n cs) c) ≡ None → Stands M means n made (more cs c))
+    → Changed M means h h′ c r
+  changed-when h′ made c (Ok x) e is stands = accepted h′ made c e is stands
+  changed-when h′ made c (Err f) e is stands = subst (λ y. Changed M means h y c (Err f)) (sym is) (turned-down c f e)
 
   back-same : (n : ℕ) (cs : Standing E) → Stands M means n h cs → first-no (back-questions (records-view h)) ≡ first-no (back-questions (view-of n cs))
   back-same n cs st = ap (λ m. first-no ((ltb 0 m, NoChange) ∷ [])) (st .standing-is)

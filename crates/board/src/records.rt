@@ -66,7 +66,7 @@ pub struct Pair<K> {
 
 impl<K> Pair<K> {
     // Whether it is the pair of these two.
-    pub fn is_of(&self, low: u32, high: u32) -> bool
+    pub(crate) fn is_of(&self, low: u32, high: u32) -> bool
         ensures { λ r. ⌜ r ≡ same-key (low, high) (now (self .entry) .low, now (self .entry) .high) ⌝ }
     {
         self.low == low && self.high == high

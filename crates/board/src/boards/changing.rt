@@ -1,8 +1,12 @@
 // The calls that change a board.
+ghost use mathlib.Core.Bool.{cond};
 ghost use mathlib.Core.Path.{_≡_};
+ghost use Rattle.std.specs.Results.{isOk};
+ghost use Rattle.std.specs.declared.option.Option.the-variants.{None};
+ghost use Rattle.calls.specs.Questions.{first-no, change-questions};
 ghost use Rattle.calls.specs.declared.changes.Change.the-variants.{One, Pair, Pin, Free};
-ghost use Rattle.board.specs.Stands.{Changed, Taken-back};
-ghost use Rattle.board.specs.Tables.{held, lower-first};
+ghost use Rattle.board.specs.Stands.{refusal-in, Changed, Taken-back};
+ghost use Rattle.board.specs.Tables.{held, records-view, lower-first, set-pin};
 use super::Board;
 use calls::changes::Four;
 use calls::refusals::Refusal;
@@ -42,13 +46,21 @@ impl<'a, K: Kind> Board<'a, K> {
         Ok(())
     }
 
-    // Ends a pin.
-    pub fn free(&mut self, v: u32) -> Result<(), Refusal>
-        ensures { λ r. ⌜ Changed (K·Kind .model) (K·Kind .means) (held (now (self .entry))) (held (now (self .exit))) (Free v) r ⌝ }
+    // Nothing is written before every question has said yes.
+    fn end_pin(&mut self, v: u32) -> Result<(), Refusal>
+        ensures reply { λ r. ⌜ refusal-in r ≡ first-no (change-questions (K·Kind .model) (records-view (held (now (self .entry)))) (Free v)) ⌝ }
+        ensures after { λ r. ⌜ held (now (self .exit)) ≡ cond (isOk r) (set-pin (held (now (self .entry))) v None) (held (now (self .entry))) ⌝ }
     {
         self.check_free(v)?;
         self.set_pin(v as usize, None);
         Ok(())
+    }
+
+    // Ends a pin.
+    pub fn free(&mut self, v: u32) -> Result<(), Refusal>
+        ensures { λ r. ⌜ Changed (K·Kind .model) (K·Kind .means) (held (now (self .entry))) (held (now (self .exit))) (Free v) r ⌝ }
+    {
+        self.end_pin(v)
     }
 
     // Takes the newest change back.

@@ -30,7 +30,7 @@ fn scored<K: Kind>(reply: Result<K, Refusal>) -> Result<Answer<K>, Refusal>
 
 impl<'a, K: Kind> Board<'a, K> {
     // A change, whichever it is.
-    pub fn post(&mut self, change: Change<K::Entry>) -> Result<(), Refusal>
+    fn post(&mut self, change: Change<K::Entry>) -> Result<(), Refusal>
         ensures { λ r. ⌜ Changed (K·Kind .model) (K·Kind .means) (held (now (self .entry))) (held (now (self .exit))) change r ⌝ }
     {
         match change {

@@ -1,0 +1,3 @@
+// Boards worked at their limits.
+#[cfg(test)]
+mod tests;
