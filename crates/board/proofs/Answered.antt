@@ -39,7 +39,7 @@ use Rattle.board.proofs.Views.{shows, asks-same}
 
 -- asks: the questions; same: they have one answer on the records and on the list
 module _ {E S K : Type 0} (M : Model E S) (means : K → S) (asks : View → List Question) (next : Standing E → Standing E) (h : Held K)
-  (same : (n : ℕ) (cs : Standing E) → Stands M means n h cs → first-no (asks (records-view h)) ≡ first-no (asks (view-of n cs))) where
+    (same : (n : ℕ) (cs : Standing E) → Stands M means n h cs → first-no (asks (records-view h)) ≡ first-no (asks (view-of n cs))) where
   -- turned down: nothing changed
   refused-so : (f : Refusal) → Some f ≡ first-no (asks (records-view h)) → Answered M means h h asks next (Err f)
   refused-so f e = record {
@@ -50,8 +50,8 @@ module _ {E S K : Type 0} (M : Model E S) (means : K → S) (asks : View → Lis
 
   -- accepted: from every list at which the board stood it comes to the next
   accepted-so : (h′ made : Held K) → None ≡ first-no (asks (records-view h)) → h′ ≡ made
-    → ((n : ℕ) (cs : Standing E) → Stands M means n h cs → first-no (asks (view-of n cs)) ≡ None → Stands M means n made (next cs))
-    → Answered M means h h′ asks next (Ok tt)
+      → ((n : ℕ) (cs : Standing E) → Stands M means n h cs → first-no (asks (view-of n cs)) ≡ None → Stands M means n made (next cs))
+      → Answered M means h h′ asks next (Ok tt)
   accepted-so h′ made e is stands = record {
     reply = e;
     refused = λ no′. absurd (true≢false no′);
@@ -63,14 +63,14 @@ module _ {E S K : Type 0} (M : Model E S) (means : K → S) (h : Held K) where
   turned-down c = refused-so M means (λ w. change-questions M w c) (λ cs. more cs c) h (λ n cs st. asks-same M means n h cs st c)
 
   pub accepted : (h′ made : Held K) (c : Change E) → None ≡ first-no (change-questions M (records-view h) c) → h′ ≡ made
-    → ((n : ℕ) (cs : Standing E) → Stands M means n h cs → first-no (change-questions M (view-of n cs) c) ≡ None → Stands M means n made (more cs c))
-    → Changed M means h h′ c (Ok tt)
+      → ((n : ℕ) (cs : Standing E) → Stands M means n h cs → first-no (change-questions M (view-of n cs) c) ≡ None → Stands M means n made (more cs c))
+      → Changed M means h h′ c (Ok tt)
   accepted h′ made c = accepted-so M means (λ w. change-questions M w c) (λ cs. more cs c) h (λ n cs st. asks-same M means n h cs st c) h′ made
 
   -- a write that is made only where the reply is `Ok`
   pub changed-when : (h′ made : Held K) (c : Change E) (r : Result (Unit {0}) Refusal) → refusal-in r ≡ first-no (change-questions M (records-view h) c) → h′ ≡ cond (isOk r) made h
-    → ((n : ℕ) (cs : Standing E) → Stands M means n h cs → first-no (change-questions M (view-of n cs) c) ≡ None → Stands M means n made (more cs c))
-    → Changed M means h h′ c r
+      → ((n : ℕ) (cs : Standing E) → Stands M means n h cs → first-no (change-questions M (view-of n cs) c) ≡ None → Stands M means n made (more cs c))
+      → Changed M means h h′ c r
   changed-when h′ made c (Ok x) e is stands = accepted h′ made c e is stands
   changed-when h′ made c (Err f) e is stands = subst (λ y. Changed M means h y c (Err f)) (sym is) (turned-down c f e)
 
@@ -104,9 +104,9 @@ module _ {E S K : Type 0} (M : Model E S) (laws : Laws M) (means : K → S) wher
         (stands-more M means n h _ cs (Free v) (undo-at v (WasVar (r .0))) st pass (freed M laws means n h cs st v (r .0) (r .1) (r .2)))
 
   module _ (J : K → K → K) (exact : (a b : K) → Together M (means a) (means b) → means (J a b) ≡ M .join (means a) (means b))
-    (n : ℕ) (h : Held K) (cs : Standing E) (st : Stands M means n h cs) where
+      (n : ℕ) (h : Held K) (cs : Standing E) (st : Stands M means n h cs) where
     pub one-stands : (v : ℕ) (z o : E) (zk ok : K) → M .score z ≡ Some (means zk) → M .score o ≡ Some (means ok)
-      → first-no (change-questions M (view-of n cs) (One v z o)) ≡ None → Stands M means n (join-one J h v zk ok) (more cs (One v z o))
+        → first-no (change-questions M (view-of n cs) (One v z o)) ≡ None → Stands M means n (join-one J h v zk ok) (more cs (One v z o))
     one-stands v z o zk ok zs os pass =
         let below = one-passed M (view-of n cs) v z o pass .below in
         let r = shows M means n h cs st .vars v below in
@@ -115,7 +115,7 @@ module _ {E S K : Type 0} (M : Model E S) (laws : Laws M) (means : K → S) wher
         (stands-more M means n h _ cs (One v z o) (undo-at v (WasVar (r .0))) st pass (posted M laws means J exact n h cs st v z o zk ok (r .0) pass zs os (r .1) (r .2)))
 
     pub pair-stands : (a b : ℕ) (es : Four E) (f : Four K) (place : Option ℕ) → Four-scored M means es f → Place (key a b) (used h) place
-      → first-no (change-questions M (view-of n cs) (PairPost a b es)) ≡ None → Stands M means n (join-pair J h (key a b) (lower-first a b f) place) (more cs (PairPost a b es))
+        → first-no (change-questions M (view-of n cs) (PairPost a b es)) ≡ None → Stands M means n (join-pair J h (key a b) (lower-first a b f) place) (more cs (PairPost a b es))
     pair-stands a b es f (Some i) scored found pass =
         let old = found .1 .pair in
         let inside = nth-below (used h) i old (found .1 .there) in

@@ -38,8 +38,8 @@ ask-passed false f rest r h e = let z : _≡_ {A = ℕ} 0 1 = cc in absurd (omeg
 
 -- one place more is cleared
 pub cleared-more : {X : Type 0} (before now′ : List X) (x : X) (v : ℕ) → length now′ ≡ length before
-  → ((w : ℕ) → w < v → w < length before → nth now′ w ≡ Some x)
-  → (w : ℕ) → w < v + 1 → w < length before → nth (set now′ v x) w ≡ Some x
+    → ((w : ℕ) → w < v → w < length before → nth now′ w ≡ Some x)
+    → (w : ℕ) → w < v + 1 → w < length before → nth (set now′ v x) w ≡ Some x
 cleared-more before now′ x v long so-far w below inside = go (cases-eq w v)
   where
     go : (w ≡ v) ⊎ (w ≡ v → ⊥) → nth (set now′ v x) w ≡ Some x
@@ -48,8 +48,8 @@ cleared-more before now′ x v long so-far w below inside = go (cases-eq w v)
 
 module _ {E S K : Type 0} (M : Model E S) (means : K → S) (n : ℕ) (vars : List (Var K)) (pairs : List (Pair K)) (history : List (Undo K)) where
   opened-so : (cleared : List (Var K)) (r : Var K) (h : Held K) → None ≡ not-opened n vars pairs history → Fresh M means r
-    → length cleared ≡ length vars → ((v : ℕ) → v < n → v < length vars → nth cleared v ≡ Some r) → h ≡ no-changes cleared pairs history n
-    → Opened M means n vars pairs history h
+      → length cleared ≡ length vars → ((v : ℕ) → v < n → v < length vars → nth cleared v ≡ Some r) → h ≡ no-changes cleared pairs history n
+      → Opened M means n vars pairs history h
   opened-so cleared r h e fr long each is =
       let yes′ = all-yes (opening-questions n (length vars) (length pairs) (length history)) (sym e) in
       let n-small = leb-true n most-variables (and-parts (leb 1 n) (leb n most-variables) (yes′ .0) .1) in
@@ -76,12 +76,12 @@ module _ {E S K : Type 0} (M : Model E S) (means : K → S) (n : ℕ) (vars : Li
       }
 
   pub opens : (reply : Result (Unit {0}) Refusal) (cleared : List (Var K)) (r : Var K) (h : Held K) → isErr reply ≡ false → refusal-in reply ≡ not-opened n vars pairs history → Fresh M means r
-    → length cleared ≡ length vars → ((v : ℕ) → v < n → v < length vars → nth cleared v ≡ Some r) → h ≡ no-changes cleared pairs history n
-    → Opened M means n vars pairs history h
+      → length cleared ≡ length vars → ((v : ℕ) → v < n → v < length vars → nth cleared v ≡ Some r) → h ≡ no-changes cleared pairs history n
+      → Opened M means n vars pairs history h
   opens (Ok x) cleared r h good e = opened-so cleared r h e
   opens (Err f) cleared r h bad e = absurd (true≢false bad)
 
   pub refuses : (reply : Result (Unit {0}) Refusal) (h : Held K) → isErr reply ≡ true → refusal-in reply ≡ not-opened n vars pairs history → h ≡ no-changes vars pairs history 0
-    → Opened M means n vars pairs history h
+      → Opened M means n vars pairs history h
   refuses (Ok x) h bad e same = absurd (false≢true bad)
   refuses (Err f) h bad e same = record { opened = λ k. let z : _≡_ {A = ℕ} 0 1 = cc in absurd (omega arith); refused = λ _ _. same }

@@ -63,7 +63,7 @@ module _ {K : Type 0} (k : ℕ × ℕ) (P Q : Pair K → Type 0) (others : (p : 
   none-touched (p ∷ ps) h all = go (same-key k (pair-key p)) refl h (none-touched ps)
     where
       go : (t : Bool) → same-key k (pair-key p) ≡ t → cond t 1 0 + how-many (same-key k) (map pair-key ps) ≡ 0
-        → (how-many (same-key k) (map pair-key ps) ≡ 0 → All P ps → All Q ps) → Q p × All Q ps
+          → (how-many (same-key k) (map pair-key ps) ≡ 0 → All P ps → All Q ps) → Q p × All Q ps
       go true e z rest = absurd (omega (arith, z))
       go false e z rest = (others p e (all .0), rest (omega (arith, z)) (all .1))
 
@@ -79,7 +79,7 @@ module _ {K : Type 0} (k : ℕ × ℕ) (P Q : Pair K → Type 0) (others : (p : 
   at-least-one (q ∷ qs) (suc i) p there same = omega (arith, at-least-one qs i p there same)
 
   one-touched : (ps : List (Pair K)) (i : ℕ) (p new : Pair K) → nth ps i ≡ Some p → same-key k (pair-key p) ≡ true → how-many (same-key k) (map pair-key ps) ≡ 1
-    → All P ps → Q new → All Q (set ps i new)
+      → All P ps → Q new → All Q (set ps i new)
   one-touched [] i p new there same once all q = tt
   one-touched (r ∷ rs) zero p new there same once all q =
       let e : same-key k (pair-key r) ≡ true = subst (λ x. same-key k (pair-key x) ≡ true) (is r p there) same in
@@ -91,13 +91,13 @@ module _ {K : Type 0} (k : ℕ × ℕ) (P Q : Pair K → Type 0) (others : (p : 
   one-touched (r ∷ rs) (suc i) p new there same once all q = go (same-key k (pair-key r)) refl once (at-least-one rs i p there same) (one-touched rs i p new there same)
     where
       go : (t : Bool) → same-key k (pair-key r) ≡ t → cond t 1 0 + how-many (same-key k) (map pair-key rs) ≡ 1 → 1 ≤ how-many (same-key k) (map pair-key rs)
-        → (how-many (same-key k) (map pair-key rs) ≡ 1 → All P rs → Q new → All Q (set rs i new)) → Q r × All Q (set rs i new)
+          → (how-many (same-key k) (map pair-key rs) ≡ 1 → All P rs → Q new → All Q (set rs i new)) → Q r × All Q (set rs i new)
       go true e z some rest = absurd (omega (arith, z, some))
       go false e z some rest = (others r e (all .0), rest (omega (arith, z)) (all .1) q)
 
 -- the scores of a post with the lower variable first
 lower-scored : {E S K : Type 0} (M : Model E S) (means : K → S) (a b : ℕ) (es : Four E) (f : Four K) → Four-scored M means es f
-  → (x y : Bool) → M .score (posted-at a b es x y) ≡ Some (means (at-four (lower-first a b f) x y))
+    → (x y : Bool) → M .score (posted-at a b es x y) ≡ Some (means (at-four (lower-first a b f) x y))
 lower-scored M means a b es f scored x y = go (ltb a b) x y
   where
     go : (t : Bool) (x y : Bool) → M .score (cond t (at-four es x y) (at-four es y x)) ≡ Some (means (at-four (cond t f (turned-four f)) x y))
@@ -114,9 +114,9 @@ joined-at J f g true false = refl
 joined-at J f g true true = refl
 
 module _ {E S K : Type 0} (M : Model E S) (laws : Laws M) (means : K → S) (J : K → K → K)
-  (exact : (a b : K) → Together M (means a) (means b) → means (J a b) ≡ M .join (means a) (means b))
-  (n : ℕ) (h : Held K) (cs : Standing E) (st : Stands M means n h cs)
-  (a b : ℕ) (es : Four E) (f : Four K) (pass : first-no (change-questions M (view-of n cs) (PairPost a b es)) ≡ None) (scored : Four-scored M means es f) where
+    (exact : (a b : K) → Together M (means a) (means b) → means (J a b) ≡ M .join (means a) (means b))
+    (n : ℕ) (h : Held K) (cs : Standing E) (st : Stands M means n h cs)
+    (a b : ℕ) (es : Four E) (f : Four K) (pass : first-no (change-questions M (view-of n cs) (PairPost a b es)) ≡ None) (scored : Four-scored M means es f) where
   before : Shows M means n (tables-of h) cs
   before = shows M means n h cs st
 
@@ -134,27 +134,27 @@ module _ {E S K : Type 0} (M : Model E S) (laws : Laws M) (means : K → S) (J :
 
   -- the post is joined onto the pair that is kept
   pub joined-on : (i : ℕ) (old : Pair K) → nth (used h) i ≡ Some old → pair-key old ≡ key a b → Pair-shows M means n cs old
-    → Pair-shows M means n (more cs (PairPost a b es)) (joined-pair J old (lower-first a b f))
+      → Pair-shows M means n (more cs (PairPost a b es)) (joined-pair J old (lower-first a b f))
   joined-on i old there is sh = record {
     scores = λ x y.
-      ap means (joined-at J (old .scores) (lower-first a b f) x y)
-      ∙ joined-exactly M laws means J exact (count cs) _ _ _ (posted-at a b es x y) pair-room (sh .scores x y) (pair-of-count M laws n cs (st .valid) (pair-key old) x y) (lower-scored M means a b es f scored x y)
-      ∙ sym (cond-true (same-key (key a b) (pair-key old)) _ (pair-score M cs (pair-key old) x y) (subst (λ k. same-key (key a b) k ≡ true) (sym is) (same-key-refl (key a b))));
+        ap means (joined-at J (old .scores) (lower-first a b f) x y)
+        ∙ joined-exactly M laws means J exact (count cs) _ _ _ (posted-at a b es x y) pair-room (sh .scores x y) (pair-of-count M laws n cs (st .valid) (pair-key old) x y) (lower-scored M means a b es f scored x y)
+        ∙ sym (cond-true (same-key (key a b) (pair-key old)) _ (pair-score M cs (pair-key old) x y) (subst (λ k. same-key (key a b) k ≡ true) (sym is) (same-key-refl (key a b))));
   }
 
   -- the pair is new
   pub becomes : has-key (key a b) (kept-pairs cs) ≡ false → Pair-shows M means n (more cs (PairPost a b es)) (record { low = key a b .0; high = key a b .1; scores = lower-first a b f })
   becomes absent = record {
     scores = λ x y.
-      let score = sym (ap (λ o. valueOr o (M .neutral)) (lower-scored M means a b es f scored x y)) in
-      score
-      ∙ sym (laws .unit (score-of M (posted-at a b es x y)))
-      ∙ ap (λ s. M .join s (score-of M (posted-at a b es x y))) (sym (unkept-neutral M cs (key a b) x y absent))
-      ∙ sym (cond-true (same-key (key a b) (key a b)) _ (pair-score M cs (key a b) x y) (same-key-refl (key a b)));
+        let score = sym (ap (λ o. valueOr o (M .neutral)) (lower-scored M means a b es f scored x y)) in
+        score
+        ∙ sym (laws .unit (score-of M (posted-at a b es x y)))
+        ∙ ap (λ s. M .join s (score-of M (posted-at a b es x y))) (sym (unkept-neutral M cs (key a b) x y absent))
+        ∙ sym (cond-true (same-key (key a b) (key a b)) _ (pair-score M cs (key a b) x y) (same-key-refl (key a b)));
   }
 
   pub onto-kept : (i : ℕ) (old : Pair K) → has-key (key a b) (map pair-key (used h)) ≡ true → nth (used h) i ≡ Some old → pair-key old ≡ key a b
-    → Written M means n h (replace-pair h i old (joined-pair J old (lower-first a b f))) cs (PairPost a b es) (undo-at i (WasPair old))
+      → Written M means n h (replace-pair h i old (joined-pair J old (lower-first a b f))) cs (PairPost a b es) (undo-at i (WasPair old))
   onto-kept i old has there is =
       let new = joined-pair J old (lower-first a b f) in
       let kept : has-key (key a b) (kept-pairs cs) ≡ true = sym (ap (has-key (key a b)) (before .keys)) ∙ has in
@@ -173,13 +173,13 @@ module _ {E S K : Type 0} (M : Model E S) (laws : Laws M) (means : K → S) (J :
           vars = λ v below. let r = before .vars v below in (r .0, r .1, vars-same v (r .0) (r .2));
           keys = ap (map pair-key) used-is ∙ keys-set (used h) i old new there refl ∙ before .keys ∙ sym same;
           pairs = subst (All (Pair-shows M means n (more cs (PairPost a b es)))) (sym used-is)
-            (one-touched (key a b) (Pair-shows M means n cs) (Pair-shows M means n (more cs (PairPost a b es))) others (used h) i old new there old-same (once ∙ one-if _ kept) (before .pairs) (joined-on i old there is shown));
+              (one-touched (key a b) (Pair-shows M means n cs) (Pair-shows M means n (more cs (PairPost a b es))) others (used h) i old new there old-same (once ∙ one-if _ kept) (before .pairs) (joined-on i old there is shown));
         };
         leads-back = ap (λ ps. record { vars = h .vars; pairs = set ps i old }) used-is ∙ ap (λ ps. record { vars = h .vars; pairs = ps }) (set-back (used h) i old new there);
       }
 
   pub newly-kept : has-key (key a b) (map pair-key (used h)) ≡ false → h .kept < length (h .pairs)
-    → Written M means n h (keep-pair h (record { low = key a b .0; high = key a b .1; scores = lower-first a b f })) cs (PairPost a b es) (undo-at (h .kept) Unkept)
+      → Written M means n h (keep-pair h (record { low = key a b .0; high = key a b .1; scores = lower-first a b f })) cs (PairPost a b es) (undo-at (h .kept) Unkept)
   newly-kept absent room =
       let new = new-pair (key a b) (lower-first a b f) in
       let gone : has-key (key a b) (kept-pairs cs) ≡ false = sym (ap (has-key (key a b)) (before .keys)) ∙ absent in
@@ -196,7 +196,7 @@ module _ {E S K : Type 0} (M : Model E S) (laws : Laws M) (means : K → S) (J :
           vars = λ v below. let r = before .vars v below in (r .0, r .1, vars-same v (r .0) (r .2));
           keys = ap (map pair-key) used-is ∙ map-push pair-key (used h) new ∙ ap (λ ks. ks ++ key a b ∷ []) (before .keys) ∙ sym longer;
           pairs = subst (All (Pair-shows M means n (more cs (PairPost a b es)))) (sym used-is)
-            (all-push (Pair-shows M means n (more cs (PairPost a b es))) (used h) new
+              (all-push (Pair-shows M means n (more cs (PairPost a b es))) (used h) new
               (none-touched (key a b) (Pair-shows M means n cs) (Pair-shows M means n (more cs (PairPost a b es))) others (used h) (once ∙ none-if _ gone) (before .pairs))
               (becomes gone));
         };

@@ -39,7 +39,7 @@ module _ {K : Type 0} where
       (has-key-at k (take n ps) i p here is, record { pair = p; there = here; key-is = is })
 
   pub not-yet : (k : ℕ × ℕ) (ps : List (Pair K)) (i : ℕ) (p : Pair K) → i < length ps → p ≡ getD ps i p → same-key k (pair-key p) ≡ false
-    → has-key k (map pair-key (take i ps)) ≡ false → has-key k (map pair-key (take (i + 1) ps)) ≡ false
+      → has-key k (map pair-key (take i ps)) ≡ false → has-key k (map pair-key (take (i + 1) ps)) ≡ false
   not-yet k ps i p below is other none =
       let more : take (i + 1) ps ≡ take i ps ++ (p ∷ []) = take-more ps i p below ∙ ap (λ q. take i ps ++ (q ∷ [])) (sym is) in
       ap (λ qs. has-key k (map pair-key qs)) more

@@ -52,7 +52,7 @@ module _ {E S K : Type 0} (M : Model E S) (means : K → S) (n : ℕ) (cs : Stan
   var-shown v r false s = s .zero
 
   vars-shown : (k : ℕ) (rs : List (Var K)) → ((j : ℕ) → j < length rs → (r : Var K) × (nth rs j ≡ Some r) × Var-shows M means n cs (k + j) r)
-    → map means (vars-at layout k rs) ≡ map (λ v. one-score M cs v (values layout v)) (counted k (length rs))
+      → map means (vars-at layout k rs) ≡ map (λ v. one-score M cs v (values layout v)) (counted k (length rs))
   vars-shown k [] each = refl
   vars-shown k (q ∷ rs) each =
       let here = each 0 (omega arith) in
@@ -65,15 +65,15 @@ module _ {E S K : Type 0} (M : Model E S) (means : K → S) (n : ℕ) (cs : Stan
       first-is q r h = cc
 
   pairs-shown : (ps : List (Pair K)) → All (Pair-shows M means n cs) ps
-    → map means (pairs-at layout ps) ≡ map (λ p. pair-score M cs p (values layout (p .0)) (values layout (p .1))) (map pair-key ps)
+      → map means (pairs-at layout ps) ≡ map (λ p. pair-score M cs p (values layout (p .0)) (values layout (p .1))) (map pair-key ps)
   pairs-shown [] all = refl
   pairs-shown (p ∷ ps) all = λ i. all .0 .scores (values layout (p .low)) (values layout (p .high)) i ∷ pairs-shown ps (all .1) i
 
 module _ {E S K : Type 0} (M : Model E S) (laws : Laws M) (means : K → S) (h : Held K) (layout : List ℕ) where
   -- the two running joins, one after the other, from the neutral score
   pub joined-all : (start mid r : K) → means start ≡ M .neutral
-    → Joins-on M means (vars-at layout 0 (take (h .n) (h .vars))) start [] mid → Joins-on M means (pairs-at layout (used h)) mid [] r
-    → Layout-joined M means h layout r
+      → Joins-on M means (vars-at layout 0 (take (h .n) (h .vars))) start [] mid → Joins-on M means (pairs-at layout (used h)) mid [] r
+      → Layout-joined M means h layout r
   joined-all start mid r neutral ones twos within =
       let whole = joined M (layout-at means h layout) in
       let begun : Joining M (layout-at means h layout) whole (means start) = subst (Joining M (layout-at means h layout) whole) (sym neutral) (joining-start M laws (layout-at means h layout) within) in
@@ -91,7 +91,7 @@ module _ {E S K : Type 0} (M : Model E S) (laws : Laws M) (means : K → S) (h :
     score-asks-same = ap (λ m. first-no ((eqb (length layout) m, LayoutLength) ∷ (all-values layout, Value) ∷ (keeps-pins (records-view h .pin) 0 layout, PinBroken) ∷ [])) (st .n-is) ∙ go (eqb (length layout) n) refl
       where
         go : (t : Bool) → eqb (length layout) n ≡ t
-          → first-no ((t, LayoutLength) ∷ (all-values layout, Value) ∷ (keeps-pins (records-view h .pin) 0 layout, PinBroken) ∷ [])
+            → first-no ((t, LayoutLength) ∷ (all-values layout, Value) ∷ (keeps-pins (records-view h .pin) 0 layout, PinBroken) ∷ [])
             ≡ first-no ((t, LayoutLength) ∷ (all-values layout, Value) ∷ (keeps-pins (pin-of cs) 0 layout, PinBroken) ∷ [])
         go true e = ap (λ b. first-no ((all-values layout, Value) ∷ (b, PinBroken) ∷ [])) (keeps-same 0 layout (omega (arith, eqb-true (length layout) n e)))
         go false e = refl
@@ -102,9 +102,9 @@ module _ {E S K : Type 0} (M : Model E S) (laws : Laws M) (means : K → S) (h :
         let before = shows M means n h cs st in
         let long : length (take (h .n) (h .vars)) ≡ n = length-take-le (h .n) (h .vars) (omega (arith, st .n-is, st .n-small, st .vars-long)) ∙ st .n-is in
         let each : (j : ℕ) → j < length (take (h .n) (h .vars)) → (r : Var K) × (nth (take (h .n) (h .vars)) j ≡ Some r) × Var-shows M means n cs (0 + j) r =
-          λ j below.
-            let r = before .vars j (omega (arith, below, long)) in
-            (r .0, nth-take (h .vars) (h .n) j (omega (arith, below, long, st .n-is)) ∙ r .1, subst (λ v. Var-shows M means n cs v (r .0)) (omega arith) (r .2))
+        λ j below.
+        let r = before .vars j (omega (arith, below, long)) in
+        (r .0, nth-take (h .vars) (h .n) j (omega (arith, below, long, st .n-is)) ∙ r .1, subst (λ v. Var-shows M means n cs v (r .0)) (omega arith) (r .2))
         in
         let ones = vars-shown M means n cs layout 0 (take (h .n) (h .vars)) each ∙ ap (λ m. map (λ v. one-score M cs v (values layout v)) (counted 0 m)) long ∙ ap (map (λ v. one-score M cs v (values layout v))) (sym (variables-counted n)) in
         let twos = pairs-shown M means n cs layout (used h) (before .pairs) ∙ ap (map (λ p. pair-score M cs p (values layout (p .0)) (values layout (p .1)))) (before .keys) in

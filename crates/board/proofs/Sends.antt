@@ -28,8 +28,8 @@ use Rattle.board.specs.Tables.{Held, records-view}
 module _ {E S K : Type 0} (M : Model E S) (means : K → S) (b a : Held K) (call : Call E) (layout : List ℕ) where
   -- the promise about lists of calls follows from that about lists of standing changes
   replied : (r : Result (Answer K) Refusal) → refusal-in r ≡ first-no (questions M (records-view b) call layout) → (isOk r ≡ false → a ≡ b) → (call ≡ Score → a ≡ b)
-    → ((n : ℕ) (cs : Standing E) → Stands M means n b cs → (meaning means r ≡ reply-at M n cs (sent call layout)) × Stands M means n a (after-call M n cs (sent call layout)))
-    → Replied M means b a call layout r
+      → ((n : ℕ) (cs : Standing E) → Stands M means n b cs → (meaning means r ≡ reply-at M n cs (sent call layout)) × Stands M means n a (after-call M n cs (sent call layout)))
+      → Replied M means b a call layout r
   replied r reply same asked stands = record {
     reply = reply;
     refused = same;
@@ -37,28 +37,28 @@ module _ {E S K : Type 0} (M : Model E S) (means : K → S) (b a : Held K) (call
     stands = stands;
     sent-on = λ n calls st. stands n (standing M n calls) st .1;
     no-trace = λ n calls kept st struck.
-      let here = stands n (standing M n calls) st .0 in
-      (here, here ∙ sym (taking-back M .same n calls kept struck .replies (sent call layout)));
+        let here = stands n (standing M n calls) st .0 in
+        (here, here ∙ sym (taking-back M .same n calls kept struck .replies (sent call layout)));
   }
 
   -- turned down
   denied-so : (n : ℕ) (cs : Standing E) (f : Refusal) → Some f ≡ refused M n cs (sent call layout) → a ≡ b → Stands M means n b cs
-    → (denied f ≡ reply-at M n cs (sent call layout)) × Stands M means n a (after-call M n cs (sent call layout))
-  denied-so n cs f e same st =
-      ( ap (λ o. reply-or M o (accepted-reply M n cs call layout)) e
-      , subst (λ o. Stands M means n a (cond (isSome o) cs (carried-out M cs call))) e (subst (λ h. Stands M means n h cs) (sym same) st)
-      )
+      → (denied f ≡ reply-at M n cs (sent call layout)) × Stands M means n a (after-call M n cs (sent call layout))
+  denied-so n cs f e same st = (
+    ap (λ o. reply-or M o (accepted-reply M n cs call layout)) e,
+    subst (λ o. Stands M means n a (cond (isSome o) cs (carried-out M cs call))) e (subst (λ h. Stands M means n h cs) (sym same) st),
+  )
 
   -- accepted
   taken-so : (n : ℕ) (cs : Standing E) (reply : Reply S) → None ≡ refused M n cs (sent call layout) → reply ≡ accepted-reply M n cs call layout → Stands M means n a (carried-out M cs call)
-    → (reply ≡ reply-at M n cs (sent call layout)) × Stands M means n a (after-call M n cs (sent call layout))
-  taken-so n cs reply e same st =
-      ( same ∙ ap (λ o. reply-or M o (accepted-reply M n cs call layout)) e
-      , subst (λ o. Stands M means n a (cond (isSome o) cs (carried-out M cs call))) e st
-      )
+      → (reply ≡ reply-at M n cs (sent call layout)) × Stands M means n a (after-call M n cs (sent call layout))
+  taken-so n cs reply e same st = (
+    same ∙ ap (λ o. reply-or M o (accepted-reply M n cs call layout)) e,
+    subst (λ o. Stands M means n a (cond (isSome o) cs (carried-out M cs call))) e st,
+  )
 
   sends-change : ((n : ℕ) (cs : Standing E) → done ≡ accepted-reply M n cs call layout) → (call ≡ Score → a ≡ b) → (r : Result (Unit {0}) Refusal)
-    → Answered M means b a (λ w. questions M w call layout) (λ cs. carried-out M cs call) r → Replied M means b a call layout (done-or r)
+      → Answered M means b a (λ w. questions M w call layout) (λ cs. carried-out M cs call) r → Replied M means b a call layout (done-or r)
   sends-change no-score asked (Ok x) h =
       replied (Ok Done) (h .reply) (λ e. absurd (true≢false e)) asked (λ n cs st. let s = h .stands n cs st in taken-so n cs done (s .0) (no-score n cs) (s .1 refl))
   sends-change no-score asked (Err f) h =

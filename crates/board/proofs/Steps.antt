@@ -27,12 +27,12 @@ use Rattle.board.proofs.Views.{shown}
 module _ {E S K : Type 0} (M : Model E S) (means : K → S) (n : ℕ) where
   -- a history record past the standing changes may be written
   traces-ahead : (history : List (Undo K)) (i : ℕ) (u : Undo K) (t : Tables K) (cs : Standing E) → count cs ≤ i
-    → Traces M means n history t cs → Traces M means n (set history i u) t cs
+      → Traces M means n history t cs → Traces M means n (set history i u) t cs
   traces-ahead history i u t fresh h tr = tr
   traces-ahead history i u t (more cs c) h tr =
-      let differ : count cs ≡ i → ⊥ = λ e. omega (arith, h, e) in
-      ( tr .0
-      , (tr .1 .0, nth-set-other history i (count cs) u differ ∙ tr .1 .1, traces-ahead history i u (undone (tr .1 .0) t) cs (omega (arith, h)) (tr .1 .2))
+      let differ : count cs ≡ i → ⊥ = λ e. omega (arith, h, e) in (
+        tr .0,
+        (tr .1 .0, nth-set-other history i (count cs) u differ ∙ tr .1 .1, traces-ahead history i u (undone (tr .1 .0) t) cs (omega (arith, h)) (tr .1 .2)),
       )
 
   -- what a write has to keep for its change to go on at the end of the list
@@ -47,7 +47,7 @@ module _ {E S K : Type 0} (M : Model E S) (means : K → S) (n : ℕ) where
     pub leads-back : undone u (tables-of h′) ≡ tables-of h
 
   pub stands-more : (h h′ : Held K) (cs : Standing E) (c : Change E) (u : Undo K) → Stands M means n h cs
-    → first-no (change-questions M (view-of n cs) c) ≡ None → Written h h′ cs c u → Stands M means n h′ (more cs c)
+      → first-no (change-questions M (view-of n cs) c) ≡ None → Written h h′ cs c u → Stands M means n h′ (more cs c)
   stands-more h h′ cs c u st ok w =
       let room = change-room M (view-of n cs) c ok in
       let at : h .standing ≡ count cs = st .standing-is in
@@ -63,13 +63,14 @@ module _ {E S K : Type 0} (M : Model E S) (means : K → S) (n : ℕ) where
         history-long = omega (arith, ap length (w .history-is), length-set (h .history) (h .standing) u, st .history-long);
         n-small = st .n-small;
         valid = (st .valid, ok);
-        traces =
-          ( w .shows
-          , ( u
-            , ap (λ l. nth l (count cs)) written ∙ nth-set-same (h .history) (count cs) u inside
-            , subst (λ l. Traces M means n l (undone u (tables-of h′)) cs) (sym written) (subst (λ t. Traces M means n (set (h .history) (count cs) u) t cs) (sym (w .leads-back)) before)
-            )
-          );
+        traces = (
+          w .shows,
+          (
+            u,
+            ap (λ l. nth l (count cs)) written ∙ nth-set-same (h .history) (count cs) u inside,
+            subst (λ l. Traces M means n l (undone u (tables-of h′)) cs) (sym written) (subst (λ t. Traces M means n (set (h .history) (count cs) u) t cs) (sym (w .leads-back)) before),
+          ),
+        );
       }
 
   -- the pair records in use are as many as are kept
@@ -80,16 +81,16 @@ module _ {E S K : Type 0} (M : Model E S) (means : K → S) (n : ℕ) where
 
   -- a record put back on the memory is put back on the tables
   put-back-tables : (h : Held K) (i : ℕ) (w : Was K) → length (used h) ≡ h .kept
-    → (tables-of (put-back h (undo-at i w)) ≡ undone (undo-at i w) (tables-of h)) × (put-back h (undo-at i w) .kept ≡ length (undone (undo-at i w) (tables-of h) .pairs))
+      → (tables-of (put-back h (undo-at i w)) ≡ undone (undo-at i w) (tables-of h)) × (put-back h (undo-at i w) .kept ≡ length (undone (undo-at i w) (tables-of h) .pairs))
   put-back-tables h i (WasVar old) long = (refl, sym long)
   put-back-tables h i (WasPair old) long =
       (ap (λ ps. record { vars = h .vars; pairs = ps }) (take-set (h .pairs) (h .kept) i old), sym (length-set (used h) i old ∙ long))
   put-back-tables h i Unkept long =
       let m = length (used h) in
       let fewer : m - 1 ≡ h .kept - 1 = omega (arith, long) in
-      let shorter : take (m - 1) (used h) ≡ take (h .kept - 1) (h .pairs) = ap (λ k. take k (used h)) fewer ∙ take-take (h .kept - 1) (h .kept) (h .pairs) (omega arith) in
-      ( ap (λ ps. record { vars = h .vars; pairs = ps }) (sym shorter)
-      , sym (length-take-le (m - 1) (used h) (omega arith) ∙ fewer)
+      let shorter : take (m - 1) (used h) ≡ take (h .kept - 1) (h .pairs) = ap (λ k. take k (used h)) fewer ∙ take-take (h .kept - 1) (h .kept) (h .pairs) (omega arith) in (
+        ap (λ ps. record { vars = h .vars; pairs = ps }) (sym shorter),
+        sym (length-take-le (m - 1) (used h) (omega arith) ∙ fewer),
       )
 
   record Same-size (h h′ : Held K) : Type 0 where

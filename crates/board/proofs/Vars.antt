@@ -35,11 +35,11 @@ use Rattle.board.proofs.Views.{shows}
 module _ {E S K : Type 0} (M : Model E S) (laws : Laws M) (means : K → S) (n : ℕ) (h : Held K) (cs : Standing E) (st : Stands M means n h cs) where
   -- a variable's record is replaced by one that shows the longer list
   replaced : (c : Change E) (v : ℕ) (old new : Var K) → nth (h .vars) v ≡ Some old
-    → Var-shows M means n (more cs c) v new
-    → ((w : ℕ) → (w ≡ v → ⊥) → (r : Var K) → Var-shows M means n cs w r → Var-shows M means n (more cs c) w r)
-    → kept-pairs (more cs c) ≡ kept-pairs cs
-    → ((p : _) → Pair-shows M means n cs p → Pair-shows M means n (more cs c) p)
-    → Written M means n h (replace-var h v old new) cs c (undo-at v (WasVar old))
+      → Var-shows M means n (more cs c) v new
+      → ((w : ℕ) → (w ≡ v → ⊥) → (r : Var K) → Var-shows M means n cs w r → Var-shows M means n (more cs c) w r)
+      → kept-pairs (more cs c) ≡ kept-pairs cs
+      → ((p : _) → Pair-shows M means n cs p → Pair-shows M means n (more cs c) p)
+      → Written M means n h (replace-var h v old new) cs c (undo-at v (WasVar old))
   replaced c v old new there here others kept pairs =
       let before = shows M means n h cs st in
       record {
@@ -58,16 +58,16 @@ module _ {E S K : Type 0} (M : Model E S) (laws : Laws M) (means : K → S) (n :
       }
     where
       at : (w : ℕ) → w < n → (r : Var K) × (nth (h .vars) w ≡ Some r) × Var-shows M means n cs w r → (w ≡ v) ⊎ (w ≡ v → ⊥)
-        → (r : Var K) × (nth (set (h .vars) v new) w ≡ Some r) × Var-shows M means n (more cs c) w r
-      at w below r (inl e) =
-          ( new
-          , ap (nth (set (h .vars) v new)) e ∙ nth-set-same (h .vars) v new (nth-below (h .vars) v old there)
-          , subst (λ u. Var-shows M means n (more cs c) u new) (sym e) here
-          )
+          → (r : Var K) × (nth (set (h .vars) v new) w ≡ Some r) × Var-shows M means n (more cs c) w r
+      at w below r (inl e) = (
+        new,
+        ap (nth (set (h .vars) v new)) e ∙ nth-set-same (h .vars) v new (nth-below (h .vars) v old there),
+        subst (λ u. Var-shows M means n (more cs c) u new) (sym e) here,
+      )
       at w below r (inr e) = (r .0, nth-set-other (h .vars) v w new e ∙ r .1, others w e (r .0) (r .2))
 
   pub pinned : (v x : ℕ) (old : Var K) → nth (h .vars) v ≡ Some old → Var-shows M means n cs v old
-    → Written M means n h (replace-var h v old (with-pin old (Some (eqb x 1)))) cs (Pin v x) (undo-at v (WasVar old))
+      → Written M means n h (replace-var h v old (with-pin old (Some (eqb x 1)))) cs (Pin v x) (undo-at v (WasVar old))
   pinned v x old there sh =
       replaced (Pin v x) v old (with-pin old (Some (eqb x 1))) there
       (record { zero = sh .zero; one = sh .one; pin = sym (cond-true (eqb v v) (Some (eqb x 1)) (pin-of cs v) (eq-eqb v v refl)) })
@@ -76,7 +76,7 @@ module _ {E S K : Type 0} (M : Model E S) (laws : Laws M) (means : K → S) (n :
       (λ p s. record { scores = s .scores })
 
   pub freed : (v : ℕ) (old : Var K) → nth (h .vars) v ≡ Some old → Var-shows M means n cs v old
-    → Written M means n h (replace-var h v old (with-pin old None)) cs (Free v) (undo-at v (WasVar old))
+      → Written M means n h (replace-var h v old (with-pin old None)) cs (Free v) (undo-at v (WasVar old))
   freed v old there sh =
       replaced (Free v) v old (with-pin old None) there
       (record { zero = sh .zero; one = sh .one; pin = sym (cond-true (eqb v v) None (pin-of cs v) (eq-eqb v v refl)) })
@@ -86,9 +86,9 @@ module _ {E S K : Type 0} (M : Model E S) (laws : Laws M) (means : K → S) (n :
 
 -- one more entry joined on, where there is room
 module _ {E S K : Type 0} (M : Model E S) (laws : Laws M) (means : K → S) (J : K → K → K)
-  (exact : (a b : K) → Together M (means a) (means b) → means (J a b) ≡ M .join (means a) (means b)) where
+    (exact : (a b : K) → Together M (means a) (means b) → means (J a b) ≡ M .join (means a) (means b)) where
   pub joined-exactly : (m : ℕ) (a b : K) (s : S) (e : E) → m < most-changes → means a ≡ s → Of M m s → M .score e ≡ Some (means b)
-    → means (J a b) ≡ M .join s (score-of M e)
+      → means (J a b) ≡ M .join s (score-of M e)
   joined-exactly m a b s e room is of scored =
       let score : means b ≡ score-of M e = sym (ap (λ o. valueOr o (M .neutral)) scored) in
       exact a b (record { left = m; right = 1; within = omega (arith, room); of-left = subst (Of M m) (sym is) of; of-right = of-one M laws e (means b) scored })
@@ -96,8 +96,8 @@ module _ {E S K : Type 0} (M : Model E S) (laws : Laws M) (means : K → S) (J :
 
   module _ (n : ℕ) (h : Held K) (cs : Standing E) (st : Stands M means n h cs) where
     pub posted : (v : ℕ) (z o : E) (zk ok : K) (old : Var K) → first-no (change-questions M (view-of n cs) (One v z o)) ≡ None
-      → M .score z ≡ Some (means zk) → M .score o ≡ Some (means ok) → nth (h .vars) v ≡ Some old → Var-shows M means n cs v old
-      → Written M means n h (replace-var h v old (joined-var J old zk ok)) cs (One v z o) (undo-at v (WasVar old))
+        → M .score z ≡ Some (means zk) → M .score o ≡ Some (means ok) → nth (h .vars) v ≡ Some old → Var-shows M means n cs v old
+        → Written M means n h (replace-var h v old (joined-var J old zk ok)) cs (One v z o) (undo-at v (WasVar old))
     posted v z o zk ok old pass zs os there sh =
         let room = one-passed M (view-of n cs) v z o pass .room in
         let zero = joined-exactly (count cs) (old .zero) zk _ z room (sh .zero) (one-of-count M laws n cs (st .valid) v false) zs in

@@ -22,7 +22,7 @@ use Rattle.board.specs.Tables.{Held, pair-key, used, var-pin, records-view}
 
 -- under a first question that says no, the rest does not matter
 under : (t : Bool) (f : Refusal) (p q : Option Bool) (rest : Option Bool → List Question) → (t ≡ true → p ≡ q)
-  → first-no ((t, f) ∷ rest p) ≡ first-no ((t, f) ∷ rest q)
+    → first-no ((t, f) ∷ rest p) ≡ first-no ((t, f) ∷ rest q)
 under true f p q rest same = ap (λ x. first-no (rest x)) (same refl)
 under false f p q rest same = refl
 

@@ -49,10 +49,10 @@ module _ {E S K : Type 0} (M : Model E S) (means : K → S) where
     pub asked : call ≡ Score → after ≡ before
     -- for every list of standing changes at which the board stands: the defined reply, and the list that follows
     pub stands : (n : ℕ) (cs : Standing E) → Stands M means n before cs
-      → (meaning means r ≡ reply-at M n cs (sent call layout)) × Stands M means n after (after-call M n cs (sent call layout))
+        → (meaning means r ≡ reply-at M n cs (sent call layout)) × Stands M means n after (after-call M n cs (sent call layout))
     -- for every list of calls that the board was sent: it was then sent that list with this call at its end
     pub sent-on : (n : ℕ) (calls : Calls E) → Was-sent n calls before → Was-sent n (then calls (sent call layout)) after
     -- taking back leaves no trace: strike from the list the calls turned down, each change later taken back and the backs that took them;
     -- a board that is sent what remains gives this call the same reply
     pub no-trace : (n : ℕ) (calls kept : Calls E) → Was-sent n calls before → Struck M n calls kept
-      → (meaning means r ≡ reply-after M n calls (sent call layout)) × (meaning means r ≡ reply-after M n kept (sent call layout))
+        → (meaning means r ≡ reply-after M n calls (sent call layout)) × (meaning means r ≡ reply-after M n kept (sent call layout))

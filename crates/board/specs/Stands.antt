@@ -38,10 +38,10 @@ tables-of h = record { vars = h .vars; pairs = used h }
 -- the tables with a history record's contents put back
 abbrev pub undone : {K : Type 0} → Undo K → Tables K → Tables K
 undone u t = elim (u .was) [
-  WasVar old ↦ record { vars = set (t .vars) (u .at) old; pairs = t .pairs }
+  | WasVar old ↦ record { vars = set (t .vars) (u .at) old; pairs = t .pairs }
   | WasPair old ↦ record { vars = t .vars; pairs = set (t .pairs) (u .at) old }
   | Unkept ↦ record { vars = t .vars; pairs = take (length (t .pairs) - 1) (t .pairs) }
-  ]
+]
 
 module _ {E S K : Type 0} (M : Model E S) (means : K → S) (n : ℕ) where
   -- a variable's record holds the scores and the pin that the list gives
@@ -87,7 +87,7 @@ pub record Answered {E S K : Type 0} (M : Model E S) (means : K → S) (before a
   pub reply : refusal-in r ≡ first-no (asks (records-view before))
   pub refused : isOk r ≡ false → after ≡ before
   pub stands : (n : ℕ) (cs : Standing E) → Stands M means n before cs
-    → (refusal-in r ≡ first-no (asks (view-of n cs))) × (isOk r ≡ true → Stands M means n after (next cs))
+      → (refusal-in r ≡ first-no (asks (view-of n cs))) × (isOk r ≡ true → Stands M means n after (next cs))
 
 -- a change goes on at the end of the list
 abbrev pub Changed : {E S K : Type 0} → Model E S → (K → S) → Held K → Held K → Change E → Result (Unit {0}) Refusal → Type 0
@@ -101,7 +101,7 @@ Taken-back M means before after r = Answered M means before after back-questions
 pub record Scored {E S K : Type 0} (M : Model E S) (means : K → S) (h : Held K) (layout : List ℕ) (r : Result K Refusal) : Type 0 where
   pub reply : refusal-in r ≡ first-no (score-questions (records-view h) layout)
   pub stands : (n : ℕ) (cs : Standing E) → Stands M means n h cs
-    → (refusal-in r ≡ first-no (score-questions (view-of n cs) layout)) × made r (λ s. means s ≡ layout-score M n cs (values layout))
+      → (refusal-in r ≡ first-no (score-questions (view-of n cs) layout)) × made r (λ s. means s ≡ layout-score M n cs (values layout))
 
 -- four entries have these scores
 abbrev pub Four-scored : {E S K : Type 0} → Model E S → (K → S) → Four E → Four K → Type 0

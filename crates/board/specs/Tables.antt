@@ -86,10 +86,10 @@ keep-pair h new = record {
 -- the newest history record's contents are put back
 abbrev pub put-back : {K : Type 0} → Held K → Undo K → Held K
 put-back h u = elim (u .was) [
-  WasVar old ↦ record { vars = set (h .vars) (u .at) old; pairs = h .pairs; history = h .history; n = h .n; kept = h .kept; standing = h .standing - 1 }
+  | WasVar old ↦ record { vars = set (h .vars) (u .at) old; pairs = h .pairs; history = h .history; n = h .n; kept = h .kept; standing = h .standing - 1 }
   | WasPair old ↦ record { vars = h .vars; pairs = set (h .pairs) (u .at) old; history = h .history; n = h .n; kept = h .kept; standing = h .standing - 1 }
   | Unkept ↦ record { vars = h .vars; pairs = h .pairs; history = h .history; n = h .n; kept = h .kept - 1; standing = h .standing - 1 }
-  ]
+]
 
 -- the newest change is taken back
 abbrev pub take-back : {K : Type 0} → Held K → Held K

@@ -29,11 +29,7 @@ pub(crate) fn write<T: Copy>(items: &mut [T], at: usize, item: T)
 pub(crate) fn first<T>(items: &[T], n: usize) -> &[T]
     ensures { λ r. ⌜ now r ≡ take n (now (items .entry)) ⌝ }
 {
-    if n < items.len() {
-        &items[0..n]
-    } else {
-        items
-    }
+    if n < items.len() { &items[0..n] } else { items }
 }
 
 // Where the pair of two variables stands among the first `used` records.

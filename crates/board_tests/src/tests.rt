@@ -46,7 +46,11 @@ fn number(reply: Result<(), Refusal>) -> u8 {
 }
 
 // What a layout's score prints as, or the number of the refusal.
-fn text<K: Kind + Display>(heap: Global, board: &Board<'_, K>, layout: &[u8]) -> Result<String, AllocError> {
+fn text<K: Kind + Display>(
+    heap: Global,
+    board: &Board<'_, K>,
+    layout: &[u8],
+) -> Result<String, AllocError> {
     match board.score(layout) {
         Ok(score) => format!(heap, "{score}"),
         Err(refusal) => {
@@ -61,7 +65,12 @@ fn access(hits: u32, cycles: i32) -> Access {
 }
 
 fn four(at00: Access, at01: Access, at10: Access, at11: Access) -> Four<Access> {
-    Four { at00, at01, at10, at11 }
+    Four {
+        at00,
+        at01,
+        at10,
+        at11,
+    }
 }
 
 fn apart() -> Four<Access> {

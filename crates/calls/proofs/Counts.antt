@@ -102,7 +102,7 @@ module _ {E S : Type 0} (M : Model E S) (laws : Laws M) where
 
   -- scores that are of as many entries as are counted, with the counts' sum at most m, are together of m
   within-map : {X : Type 0} (f : X → S) (c : X → ℕ) → ((x : X) → Of M (c x) (f x)) → (xs : List X) (m : ℕ) (rest : List S)
-    → joined (counting {E = E}) (map c xs) ≤ m → Within M (m - joined (counting {E = E}) (map c xs)) rest → Within M m (map f xs ++ rest)
+      → joined (counting {E = E}) (map c xs) ≤ m → Within M (m - joined (counting {E = E}) (map c xs)) rest → Within M m (map f xs ++ rest)
   within-map f c each [] m rest h w = let e : m - 0 ≡ m = omega arith in subst (λ i. Within M i rest) e w
   within-map f c each (x ∷ xs) m rest h w =
       let sum = joined (counting {E = E}) (map c xs) in
@@ -145,15 +145,15 @@ module _ {E S : Type 0} (M : Model E S) (laws : Laws M) (n : ℕ) where
 
   -- the scores at a layout's values are together of at most as many entries as a kind joins exactly
   pub layout-within : (cs : Standing E) → Valid M n cs → (L : ℕ → Bool)
-    → Within M exact-entries (map (λ v. one-score M cs v (L v)) (variables n) ++ map (λ p. pair-score M cs p (L (p .0)) (L (p .1))) (kept-pairs cs))
+      → Within M exact-entries (map (λ v. one-score M cs v (L v)) (variables n) ++ map (λ p. pair-score M cs p (L (p .0)) (L (p .1))) (kept-pairs cs))
   layout-within cs h L =
       let ones = map (λ v. one-score (counting {E = E}) cs v (L v)) (variables n) in
       let twos = map (λ p. pair-score (counting {E = E}) cs p (L (p .0)) (L (p .1))) (kept-pairs cs) in
       let total : joined (counting {E = E}) ones + joined (counting {E = E}) twos ≤ exact-entries =
-        omega (arith, joined-append (counting {E = E}) counting-laws ones twos, over-posts-within counting counting-laws n cs (valid-in-range M n cs h) L, selected-few cs L, valid-few cs h)
+      omega (arith, joined-append (counting {E = E}) counting-laws ones twos, over-posts-within counting counting-laws n cs (valid-in-range M n cs h) L, selected-few cs L, valid-few cs h)
       in
       within-map M laws (λ v. one-score M cs v (L v)) (λ v. one-score (counting {E = E}) cs v (L v)) (λ v. one-of M laws n cs h v (L v)) (variables n) exact-entries _
       (omega (arith, total))
       (subst (λ r. Within M (exact-entries - joined (counting {E = E}) ones) r) (append-nil _)
-        (within-map M laws (λ p. pair-score M cs p (L (p .0)) (L (p .1))) (λ p. pair-score (counting {E = E}) cs p (L (p .0)) (L (p .1))) (λ p. pair-of M laws n cs h p (L (p .0)) (L (p .1))) (kept-pairs cs) (exact-entries - joined (counting {E = E}) ones) []
-          (omega (arith, total)) tt))
+      (within-map M laws (λ p. pair-score M cs p (L (p .0)) (L (p .1))) (λ p. pair-score (counting {E = E}) cs p (L (p .0)) (L (p .1))) (λ p. pair-of M laws n cs h p (L (p .0)) (L (p .1))) (kept-pairs cs) (exact-entries - joined (counting {E = E}) ones) []
+      (omega (arith, total)) tt))

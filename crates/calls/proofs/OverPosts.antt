@@ -56,7 +56,7 @@ has-key-push k q (p ∷ ps) = ap (λ b. same-key k p || b) (has-key-push k q ps)
 module _ {E : Type 0} where
   -- a pair is kept after a post if it was, or if the post is its own
   pub kept-after : (cs : Standing E) (a b : ℕ) (es : Four E) (k : ℕ × ℕ)
-    → has-key k (kept-pairs (more cs (Pair a b es))) ≡ (has-key k (kept-pairs cs) || same-key (key a b) k)
+      → has-key k (kept-pairs (more cs (Pair a b es))) ≡ (has-key k (kept-pairs cs) || same-key (key a b) k)
   kept-after cs a b es k = go (has-key (key a b) (kept-pairs cs)) refl
     where
       absorbed : (t u : Bool) → (u ≡ true → t ≡ true) → t ≡ (t || u)
@@ -81,7 +81,7 @@ module _ {E : Type 0} where
       pushed false false m e h = omega (arith, e)
 
       go : (t : Bool) → has-key (key a b) (kept-pairs cs) ≡ t → how-many (same-key k) (kept-pairs cs) ≡ cond (has-key k (kept-pairs cs)) 1 0
-        → how-many (same-key k) (cond t (kept-pairs cs) (kept-pairs cs ++ key a b ∷ [])) ≡ cond (has-key k (cond t (kept-pairs cs) (kept-pairs cs ++ key a b ∷ []))) 1 0
+          → how-many (same-key k) (cond t (kept-pairs cs) (kept-pairs cs ++ key a b ∷ [])) ≡ cond (has-key k (cond t (kept-pairs cs) (kept-pairs cs ++ key a b ∷ []))) 1 0
       go true e rest = rest
       go false e rest =
           how-many-append (same-key k) (kept-pairs cs) (key a b ∷ [])
@@ -130,18 +130,18 @@ module _ {E S : Type 0} (M : Model E S) (laws : Laws M) where
   joined-untouched t s f (x ∷ xs) h = go (t x) h (joined-untouched t s f xs)
     where
       go : (b : Bool) → cond b 1 0 + how-many t xs ≡ 0 → (how-many t xs ≡ 0 → joined M (map (touched t s f) xs) ≡ joined M (map f xs))
-        → M .join (cond b (M .join (f x) (s x)) (f x)) (joined M (map (touched t s f) xs)) ≡ M .join (f x) (joined M (map f xs))
+          → M .join (cond b (M .join (f x) (s x)) (f x)) (joined M (map (touched t s f) xs)) ≡ M .join (f x) (joined M (map f xs))
       go true e rest = absurd (omega (arith, e))
       go false e rest = ap (M .join (f x)) (rest (omega (arith, e)))
 
   -- where one passes, its score is joined to the whole
   joined-touched : {X : Type 0} (t : X → Bool) (s f : X → S) (c : S) → ((x : X) → t x ≡ true → s x ≡ c) → (xs : List X) → how-many t xs ≡ 1
-    → joined M (map (touched t s f) xs) ≡ M .join (joined M (map f xs)) c
+      → joined M (map (touched t s f) xs) ≡ M .join (joined M (map f xs)) c
   joined-touched t s f c is [] h = absurd (omega (arith, h))
   joined-touched t s f c is (x ∷ xs) h = go (t x) (is x) h (joined-touched t s f c is xs)
     where
       go : (b : Bool) → (b ≡ true → s x ≡ c) → cond b 1 0 + how-many t xs ≡ 1 → (how-many t xs ≡ 1 → joined M (map (touched t s f) xs) ≡ M .join (joined M (map f xs)) c)
-        → M .join (cond b (M .join (f x) (s x)) (f x)) (joined M (map (touched t s f) xs)) ≡ M .join (M .join (f x) (joined M (map f xs))) c
+          → M .join (cond b (M .join (f x) (s x)) (f x)) (joined M (map (touched t s f) xs)) ≡ M .join (M .join (f x) (joined M (map f xs))) c
       go true is-c e rest =
           ap (M .join (M .join (f x) (s x))) (joined-untouched t s f xs (omega (arith, e)))
           ∙ swap (f x) (s x) (joined M (map f xs))
@@ -163,7 +163,7 @@ module _ {E S : Type 0} (M : Model E S) (laws : Laws M) where
 
   -- a post joins the score of its entry to the pairs' scores
   pairs-joined : (cs : Standing E) (a b : ℕ) (es : Four E) (L : ℕ → Bool)
-    → joined M (map (λ p. pair-score M (more cs (Pair a b es)) p (L (p .0)) (L (p .1))) (kept-pairs (more cs (Pair a b es))))
+      → joined M (map (λ p. pair-score M (more cs (Pair a b es)) p (L (p .0)) (L (p .1))) (kept-pairs (more cs (Pair a b es))))
       ≡ M .join (joined M (map (λ p. pair-score M cs p (L (p .0)) (L (p .1))) (kept-pairs cs))) (score-of M (at-four es (L a) (L b)))
   pairs-joined cs a b es L = go (has-key (key a b) (kept-pairs cs)) refl
     where
@@ -187,7 +187,7 @@ module _ {E S : Type 0} (M : Model E S) (laws : Laws M) where
           ∙ here (key a b) (same-key-refl (key a b))
 
       go : (t : Bool) → has-key (key a b) (kept-pairs cs) ≡ t
-        → joined M (map (touched (same-key (key a b)) s f) (cond t (kept-pairs cs) (kept-pairs cs ++ key a b ∷ []))) ≡ M .join (joined M (map f (kept-pairs cs))) post
+          → joined M (map (touched (same-key (key a b)) s f) (cond t (kept-pairs cs) (kept-pairs cs ++ key a b ∷ []))) ≡ M .join (joined M (map f (kept-pairs cs))) post
       go true e = joined-touched (same-key (key a b)) s f post here (kept-pairs cs) (kept-once cs (key a b) ∙ cond-true _ 1 0 e)
       go false e =
           ap (joined M) (map-push (touched (same-key (key a b)) s f) (kept-pairs cs) (key a b))

@@ -71,8 +71,8 @@ module _ {E S : Type 0} (M : Model E S) (n : ℕ) where
   newest (then k s) ok some = go (s .call) (ok .1) some (newest k (ok .0))
     where
       go : (c : Call E) → posts-stand k (sent c (s .buffer)) c → 0 < count (after-call M n (standing M n k) (sent c (s .buffer)))
-        → (0 < count (standing M n k) → (j : Calls E) × Without-change M k j)
-        → (j : Calls E) × Without-change M (then k (sent c (s .buffer))) j
+          → (0 < count (standing M n k) → (j : Calls E) × Without-change M k j)
+          → (j : Calls E) × Without-change M (then k (sent c (s .buffer))) j
       go (Post c) fine some rest = (k, this k c (s .buffer))
       go Back fine some rest = absurd fine
       go Score fine some rest =
@@ -100,8 +100,8 @@ pub taking-back : {E S : Type 0} (M : Model E S) → Taking-back M
 taking-back M = record {
   some = struck M;
   same = λ n calls kept h.
-    let same = same-standing M n calls kept h .0 in
-    record { stands = same; replies = λ next. ap (λ cs. reply-at M n cs next) same };
+      let same = same-standing M n calls kept h .0 in
+      record { stands = same; replies = λ next. ap (λ cs. reply-at M n cs next) same };
 }
 
 -- what stands after any list of calls was accepted change by change
@@ -119,6 +119,6 @@ standing-valid {E} {S} M n (then l s) = decided (refused M n (standing M n l) s)
     taken Score r h = h
 
     decided : (o : Option Refusal) → refused M n (standing M n l) s ≡ o → Valid M n (standing M n l)
-      → Valid M n (cond (isSome o) (standing M n l) (carried-out M (standing M n l) (s .call)))
+        → Valid M n (cond (isSome o) (standing M n l) (carried-out M (standing M n l) (s .call)))
     decided None e h = taken (s .call) e h
     decided (Some f) e h = h

@@ -54,34 +54,34 @@ takes-four M es = takes M (es .at00) && (takes M (es .at01) && (takes M (es .at1
 -- opening: n, and how many variable, pair and history records there are
 abbrev pub opening-questions : ℕ → ℕ → ℕ → ℕ → List Question
 opening-questions n vars pairs history =
-  (leb 1 n && leb n most-variables, Variables)
-  ∷ (leb most-variables vars && (leb most-pairs pairs && leb most-changes history), Memory)
-  ∷ []
+    (leb 1 n && leb n most-variables, Variables)
+    ∷ (leb most-variables vars && (leb most-pairs pairs && leb most-changes history), Memory)
+    ∷ []
 
 abbrev pub change-questions : {E S : Type 0} → Model E S → View → Change E → List Question
 change-questions M w (One v z o) =
-  (ltb v (w .n), NoVariable)
-  ∷ (takes M z && takes M o, Entry)
-  ∷ (ltb (w .standing) most-changes, HistoryFull)
-  ∷ []
+    (ltb v (w .n), NoVariable)
+    ∷ (takes M z && takes M o, Entry)
+    ∷ (ltb (w .standing) most-changes, HistoryFull)
+    ∷ []
 change-questions M w (Pair a b es) =
-  (ltb a (w .n) && ltb b (w .n), NoVariable)
-  ∷ (not (eqb a b), SameVariable)
-  ∷ (takes-four M es, Entry)
-  ∷ (ltb (w .standing) most-changes, HistoryFull)
-  ∷ (has-key (key a b) (w .keys) || ltb (w .kept) most-pairs, PairsFull)
-  ∷ []
+    (ltb a (w .n) && ltb b (w .n), NoVariable)
+    ∷ (not (eqb a b), SameVariable)
+    ∷ (takes-four M es, Entry)
+    ∷ (ltb (w .standing) most-changes, HistoryFull)
+    ∷ (has-key (key a b) (w .keys) || ltb (w .kept) most-pairs, PairsFull)
+    ∷ []
 change-questions M w (Pin v x) =
-  (ltb v (w .n), NoVariable)
-  ∷ (ltb x 2, Value)
-  ∷ (not (isSome (w .pin v)), Pinned)
-  ∷ (ltb (w .standing) most-changes, HistoryFull)
-  ∷ []
+    (ltb v (w .n), NoVariable)
+    ∷ (ltb x 2, Value)
+    ∷ (not (isSome (w .pin v)), Pinned)
+    ∷ (ltb (w .standing) most-changes, HistoryFull)
+    ∷ []
 change-questions M w (Free v) =
-  (ltb v (w .n), NoVariable)
-  ∷ (isSome (w .pin v), NotPinned)
-  ∷ (ltb (w .standing) most-changes, HistoryFull)
-  ∷ []
+    (ltb v (w .n), NoVariable)
+    ∷ (isSome (w .pin v), NotPinned)
+    ∷ (ltb (w .standing) most-changes, HistoryFull)
+    ∷ []
 
 abbrev pub back-questions : View → List Question
 back-questions w = (ltb 0 (w .standing), NoChange) ∷ []
@@ -104,7 +104,7 @@ keeps-pins pin v (x ∷ xs) = keeps-pin (pin v) x && keeps-pins pin (suc v) xs
 
 abbrev pub score-questions : View → List ℕ → List Question
 score-questions w layout =
-  (eqb (length layout) (w .n), LayoutLength)
-  ∷ (all-values layout, Value)
-  ∷ (keeps-pins (w .pin) 0 layout, PinBroken)
-  ∷ []
+    (eqb (length layout) (w .n), LayoutLength)
+    ∷ (all-values layout, Value)
+    ∷ (keeps-pins (w .pin) 0 layout, PinBroken)
+    ∷ []

@@ -98,13 +98,13 @@ module _ {E S : Type 0} (M : Model E S) where
     turned-down : (l k : Calls E) (s : Sent E) (f : Refusal) → Struck n l k → refused n (standing n l) s ≡ Some f → Struck n (then l s) k
     -- an accepted change stays, unless a later back takes it
     change : (l k : Calls E) (c : Change E) (b : List ℕ) → Struck n l k → refused n (standing n l) (sent (Post c) b) ≡ None
-      → Struck n (then l (sent (Post c) b)) (then k (sent (Post c) b))
+        → Struck n (then l (sent (Post c) b)) (then k (sent (Post c) b))
     -- an accepted score stays
     score : (l k : Calls E) (b : List ℕ) → Struck n l k → refused n (standing n l) (sent Score b) ≡ None
-      → Struck n (then l (sent Score b)) (then k (sent Score b))
+        → Struck n (then l (sent Score b)) (then k (sent Score b))
     -- an accepted back is struck with the change that it took, the newest that was left
     back : (l k j : Calls E) (b : List ℕ) → Struck n l k → refused n (standing n l) (sent Back b) ≡ None
-      → Without-change k j → Struck n (then l (sent Back b)) j
+        → Without-change k j → Struck n (then l (sent Back b)) j
 
 -- Taking back leaves no trace: what remains leaves the same changes standing, and every call sent next gets the same reply.
 pub record No-trace {E S : Type 0} (M : Model E S) (n : ℕ) (calls kept : Calls E) : Type 0 where

@@ -94,7 +94,7 @@ variables (suc n) = variables n ++ n ∷ []
 -- Its score: the scores at its values, joined over every variable and every kept pair.
 abbrev pub layout-score : {E S : Type 0} → Model E S → ℕ → Standing E → (ℕ → Bool) → S
 layout-score M n cs L =
-  joined M (map (λ v. one-score M cs v (L v)) (variables n) ++ map (λ p. pair-score M cs p (L (p .0)) (L (p .1))) (kept-pairs cs))
+    joined M (map (λ v. one-score M cs v (L v)) (variables n) ++ map (λ p. pair-score M cs p (L (p .0)) (L (p .1))) (kept-pairs cs))
 
 -- two variables are partners if a pair is kept between them
 abbrev pub partners : {E : Type 0} → Standing E → ℕ → ℕ → Bool

@@ -24,12 +24,23 @@ fn spelled<'a, E: Copy>(command: &Command<'a, E>) -> Call<E>
     ensures { λ r. ⌜ r ≡ call-of (now (command .entry)) ⌝ }
 {
     match command {
-        Command::One { variable, zero, one } => Call::Post(Change::One {
+        Command::One {
+            variable,
+            zero,
+            one,
+        } => Call::Post(Change::One {
             v: *variable,
             zero: *zero,
             one: *one,
         }),
-        Command::Pair { first, second, e00, e01, e10, e11 } => Call::Post(Change::Pair {
+        Command::Pair {
+            first,
+            second,
+            e00,
+            e01,
+            e10,
+            e11,
+        } => Call::Post(Change::Pair {
             a: *first,
             b: *second,
             entries: Four {
@@ -61,7 +72,11 @@ fn digit_values(heap: Global, digits: &[u8]) -> Result<Vec<u8>, AllocError>
 }
 
 // Sends a command to the board. Only a score's layout wants memory; without it the board is as found.
-pub fn answer<'a, K: Kind>(heap: Global, board: &mut Board<'a, K>, command: Command<'_, K::Entry>) -> Result<Result<Answer<K>, Refusal>, AllocError>
+pub fn answer<'a, K: Kind>(
+    heap: Global,
+    board: &mut Board<'a, K>,
+    command: Command<'_, K::Entry>,
+) -> Result<Result<Answer<K>, Refusal>, AllocError>
     ensures told { λ r. ⌜ made r (λ t. Replied (K·Kind .model) (K·Kind .means) (held (now (board .entry))) (held (now (board .exit))) (call-of (command .entry)) (layout-of (command .entry)) t) ⌝ }
     ensures refused { λ r. ⌜ refused r (λ _. held (now (board .exit)) ≡ held (now (board .entry))) ⌝ }
 {

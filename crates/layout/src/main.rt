@@ -50,7 +50,11 @@ fn input(rt: &LibcRuntime) -> io::Result<Vec<u8>> {
 }
 
 // Answers the lines after the first, on an open board.
-fn session<K: Kind + Display>(rt: &LibcRuntime, board: &mut Board<'_, K>, reader: &mut Reader<'_>) -> io::Result<()>
+fn session<K: Kind + Display>(
+    rt: &LibcRuntime,
+    board: &mut Board<'_, K>,
+    reader: &mut Reader<'_>,
+) -> io::Result<()>
 where
     K::Entry: EntryFields,
 {
@@ -71,7 +75,11 @@ where
 }
 
 // Opens a board of the first line's size, and answers that line and the others.
-fn run<K: Kind + Clone + Display>(rt: &LibcRuntime, variables: u32, reader: &mut Reader<'_>) -> io::Result<()>
+fn run<K: Kind + Clone + Display>(
+    rt: &LibcRuntime,
+    variables: u32,
+    reader: &mut Reader<'_>,
+) -> io::Result<()>
 where
     K::Entry: EntryFields,
 {

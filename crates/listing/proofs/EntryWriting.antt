@@ -74,9 +74,9 @@ module _ {E : Type 0} (M : EntryForm E) (back : Reads-back M) where
         let p = and-parts (integer-range (e .weight)) (M .fits (e .second)) h in
         let a = ap signed-value (here front (signed (e .weight)) (M .written (e .second) ++ more)) ∙ signed-is (e .weight) (p .0) in
         let b =
-            ap (λ i. M .spelled i (front ++ signed (e .weight) ∷ (M .written (e .second) ++ more))) (sym (length-push front (signed (e .weight))))
-            ∙ ap (M .spelled (length (front ++ signed (e .weight) ∷ []))) (step front (signed (e .weight)) (M .written (e .second) ++ more))
-            ∙ back .same (e .second) (front ++ signed (e .weight) ∷ []) more (p .1) in
+        ap (λ i. M .spelled i (front ++ signed (e .weight) ∷ (M .written (e .second) ++ more))) (sym (length-push front (signed (e .weight))))
+        ∙ ap (M .spelled (length (front ++ signed (e .weight) ∷ []))) (step front (signed (e .weight)) (M .written (e .second) ++ more))
+        ∙ back .same (e .second) (front ++ signed (e .weight) ∷ []) more (p .1) in
         λ i. record { weight = a i; second = b i };
     plain = λ e h. let p = and-parts (integer-range (e .weight)) (M .fits (e .second)) h in (signed-plain (e .weight) (p .0), back .plain (e .second) (p .1));
   }
@@ -106,7 +106,7 @@ module _ {E : Type 0} (M : EntryForm E) (back : Reads-back M) where
         let fs = front ++ ((M .written (e .zero) ++ M .written (e .one)) ++ more) in
         ap first-no (questions-append line (length front) (M .forms) (M .forms) fs)
         ∙ first-after (field-questions line (length front) (M .forms) fs) (field-questions line (length front + length (M .forms)) (M .forms) fs)
-          (ap (λ l. first-no (field-questions line (length front) (M .forms) l)) (at-first e front more) ∙ back .passes (e .zero) line front (M .written (e .one) ++ more) (p .0))
+        (ap (λ l. first-no (field-questions line (length front) (M .forms) l)) (at-first e front more) ∙ back .passes (e .zero) line front (M .written (e .one) ++ more) (p .0))
         ∙ ap (λ i. first-no (field-questions line i (M .forms) fs)) (reached e front more)
         ∙ ap (λ l. first-no (field-questions line (length (front ++ M .written (e .zero))) (M .forms) l)) (at-second e front more)
         ∙ back .passes (e .one) line (front ++ M .written (e .zero)) more (p .1);

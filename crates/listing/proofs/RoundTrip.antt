@@ -166,9 +166,9 @@ opening-back number line r reply o h e =
     let long : length (n ++ comma ∷ l) ≡ length n + suc (length l) = length-append n (comma ∷ l) in
     let short : length line ≤ line-limit = omega (arith, ap length e, long, natural-short (o .variables) h, letter-length (o .kind)) in
     let passes : first-no (field-questions number 1 opening-forms (opening-fields o)) ≡ None =
-        naturals-one (spelling Board) number (o .variables) (kind ∷ []) (l ∷ []) h
-        (passes-field (spelling Board ∷ n ∷ []) l [] kind [] number (all-yes (asked kind (place-at number 2) l) (letter-known (o .kind), tt)) refl) in
+    naturals-one (spelling Board) number (o .variables) (kind ∷ []) (l ∷ []) h
+    (passes-field (spelling Board ∷ n ∷ []) l [] kind [] number (all-yes (asked kind (place-at number 2) l) (letter-known (o .kind), tt)) refl) in
     let yes : first-no (opening-questions number line) ≡ None =
-        opening-yes number line (all-yes (word-questions number line) (le-leb _ _ short, (ap isSome word, tt))) word (ap length parts)
-        ∙ ap (mapped Field) (ap (λ fs. first-no (field-questions number 1 opening-forms fs)) parts ∙ passes) in
+    opening-yes number line (all-yes (word-questions number line) (le-leb _ _ short, (ap isSome word, tt))) word (ap length parts)
+    ∙ ap (mapped Field) (ap (λ fs. first-no (field-questions number 1 opening-forms fs)) parts ∙ passes) in
     reply ∙ ap (λ q. replied q (opening-of (fields line))) yes ∙ ap Ok (ap opening-of parts ∙ (λ i. record { variables = natural-is (o .variables) h i; kind = letter-is (o .kind) i }))

@@ -23,14 +23,32 @@ pub struct Opening {
 #[derive(Drop)]
 pub enum Command<'a, E> {
     // an entry for each value of a variable
-    One { variable: u32, zero: E, one: E },
+    One {
+        variable: u32,
+        zero: E,
+        one: E,
+    },
     // an entry for each values of two variables, the first one's value first
-    Pair { first: u32, second: u32, e00: E, e01: E, e10: E, e11: E },
-    Pin { variable: u32, value: u32 },
-    Free { variable: u32 },
+    Pair {
+        first: u32,
+        second: u32,
+        e00: E,
+        e01: E,
+        e10: E,
+        e11: E,
+    },
+    Pin {
+        variable: u32,
+        value: u32,
+    },
+    Free {
+        variable: u32,
+    },
     Back,
     // a digit for each variable
-    Score { layout: Part<'a> },
+    Score {
+        layout: Part<'a>,
+    },
 }
 
 // How many fields stand after the word of a command.
@@ -98,7 +116,10 @@ fn read_score<'a, E: EntryFields>(line: Line<'a>) -> Result<Command<'a, E>, Fiel
 }
 
 // Reads the fields of a command after its word.
-pub(crate) fn read_call<'a, E: EntryFields>(line: Line<'a>, call: Call) -> Result<Command<'a, E>, FieldFault>
+pub(crate) fn read_call<'a, E: EntryFields>(
+    line: Line<'a>,
+    call: Call,
+) -> Result<Command<'a, E>, FieldFault>
     ensures { λ r. ⌜ Call-reply (E·EntryFields .form) call (line .entry) r ⌝ }
 {
     match call {

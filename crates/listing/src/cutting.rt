@@ -29,7 +29,11 @@ pub fn tail(text: &[u8], cut: u8) -> &[u8]
     ensures { λ r. ⌜ now r ≡ past cut (now (text .entry)) ⌝ }
 {
     let at = first_cut(text, cut);
-    if at == text.len() { &text[at..] } else { &text[at + 1..] }
+    if at == text.len() {
+        &text[at..]
+    } else {
+        &text[at + 1..]
+    }
 }
 
 // How many bytes `cut` there are: one less than the pieces that they part.

@@ -6,11 +6,11 @@ ghost use Rattle.listing.specs.Text.{fields};
 ghost use Rattle.listing.specs.Lines.{text-of};
 ghost use Rattle.listing.specs.Entries.{EntryForm, entry-reply, access-form, slack-form, weighted-form, by-value-form};
 ghost use Rattle.listing.specs.Written.{Reads-back};
+use crate::faults::FieldFault;
+use crate::lines::Line;
 use score::margins::Slack;
 use score::tiers::Weighted;
 use score::totals::Access;
-use crate::faults::FieldFault;
-use crate::lines::Line;
 
 pub trait EntryFields: Copy {
     // what the fields hold, the entry that they spell, and how an entry is written

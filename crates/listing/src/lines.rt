@@ -6,8 +6,8 @@ ghost use lib.ListN.{getD};
 ghost use Rattle.listing.specs.Text.{fields, Text-laws};
 ghost use Rattle.listing.specs.Forms.{bytes-of};
 ghost use Rattle.listing.specs.Lines.{text-of, place-at};
-use crate::cutting::tail;
 use crate::cutting::head;
+use crate::cutting::tail;
 use crate::faults::Place;
 use crate::parts::Part;
 
@@ -44,5 +44,4 @@ impl<'a> Line<'a> {
 // What lines and fields are: parts that give the text again. The contract is all that this function is for.
 pub fn parts_give_the_text()
     ensures { λ _. ⌜ Text-laws ⌝ }
-{
-}
+{}

@@ -62,13 +62,27 @@ fn pair_shown<E: EntryFields + Shown>(heap: Global, zero: E, one: E) -> Result<S
     format!(heap, "{zero},{one}")
 }
 
-fn command_shown<E: EntryFields + Shown>(heap: Global, command: Command<'_, E>) -> Result<String, AllocError> {
+fn command_shown<E: EntryFields + Shown>(
+    heap: Global,
+    command: Command<'_, E>,
+) -> Result<String, AllocError> {
     match command {
-        Command::One { variable, zero, one } => {
+        Command::One {
+            variable,
+            zero,
+            one,
+        } => {
             let entries = pair_shown(heap, zero, one)?;
             format!(heap, "one,{variable},{entries}")
         }
-        Command::Pair { first, second, e00, e01, e10, e11 } => {
+        Command::Pair {
+            first,
+            second,
+            e00,
+            e01,
+            e10,
+            e11,
+        } => {
             let zero = pair_shown(heap, e00, e01)?;
             let one = pair_shown(heap, e10, e11)?;
             format!(heap, "pair,{first},{second},{zero},{one}")
@@ -94,7 +108,11 @@ fn opening_shown(heap: Global, opening: Opening) -> Result<String, AllocError> {
     format!(heap, "board,{variables},{kind}")
 }
 
-fn add_commands<E: EntryFields + Shown>(heap: Global, reader: &mut Reader<'_>, out: &mut String) -> Result<(), AllocError> {
+fn add_commands<E: EntryFields + Shown>(
+    heap: Global,
+    reader: &mut Reader<'_>,
+    out: &mut String,
+) -> Result<(), AllocError> {
     for _ in 0..MOST_LINES {
         let reply = match reader.command::<E>() {
             Ok(None) => return Ok(()),
@@ -122,8 +140,16 @@ fn replies(heap: Global, text: &[u8]) -> Result<String, AllocError> {
             match opening.kind {
                 BoardKind::Total => add_commands::<Access>(heap, &mut reader, &mut out)?,
                 BoardKind::Worst => add_commands::<Slack>(heap, &mut reader, &mut out)?,
-                BoardKind::TieredTotal => add_commands::<Weighted<Access>>(heap, &mut reader, &mut out)?,
-                BoardKind::TieredWorst => add_commands::<Weighted<Slack>>(heap, &mut reader, &mut out)?,
+                BoardKind::TieredTotal => add_commands::<Weighted<Access>>(
+                    heap,
+                    &mut reader,
+                    &mut out,
+                )?,
+                BoardKind::TieredWorst => add_commands::<Weighted<Slack>>(
+                    heap,
+                    &mut reader,
+                    &mut out,
+                )?,
             }
             Ok(out)
         }

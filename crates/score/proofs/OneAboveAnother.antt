@@ -27,7 +27,7 @@ module _ {P E F A B : Type 0} (first-of : P → E) (second-of : P → F) (first 
   tiered-below x y h = go (first .at-most (y .0) (x .0)) refl h
     where
       go : (t : Bool) → first .at-most (y .0) (x .0) ≡ t → cond t (first .at-most (x .0) (y .0) && second .at-most (x .1) (y .1)) true ≡ true
-        → (first .at-most (y .0) (x .0) ≡ false) ⊎ ((x .0 ≡ y .0) × (second .at-most (x .1) (y .1) ≡ true))
+          → (first .at-most (y .0) (x .0) ≡ false) ⊎ ((x .0 ≡ y .0) × (second .at-most (x .1) (y .1) ≡ true))
       go true e k = let both = and-parts _ _ k in inr (one .antisym (x .0) (y .0) (both .0) e, both .1)
       go false e k = inl e
 

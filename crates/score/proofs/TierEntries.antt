@@ -19,9 +19,9 @@ both-parts None None x h = let z : _≡_ {A = ℕ} 0 1 = cc in absurd (omega ari
 
 -- a part of each score, and what the kind of that part makes of them
 part-of : {P E X Y : Type 0} (M : Model P X) (N : Model E Y) (f : X → Y)
-  → ((x : X) → Entered M x → Entered N (f x))
-  → ((xs : List X) → joined N (map f xs) ≡ f (joined M xs))
-  → (m : ℕ) (x : X) → Of M m x → Of N m (f x)
+    → ((x : X) → Entered M x → Entered N (f x))
+    → ((xs : List X) → joined N (map f xs) ≡ f (joined M xs))
+    → (m : ℕ) (x : X) → Of M m x → Of N m (f x)
 part-of M N f entered joins m x o = record {
   scores = map f (o .scores);
   few = simp length-map (o .few);

@@ -3,8 +3,7 @@ pub mod choice;
 pub mod claims;
 pub mod interface;
 pub mod margins;
-pub mod tiers;
-pub mod totals;
-
 #[cfg(test)]
 mod tests;
+pub mod tiers;
+pub mod totals;

@@ -59,10 +59,33 @@ fn worst_entries(rt: LibcRuntime) -> Result<(), Fail> {
     check(none.as_str() == "none")
 }
 
-fn over_total(heap: Global, weight: i32, hits: u32, cycles: i32, expected: &str) -> Result<(), Fail> {
+fn over_total(
+    heap: Global,
+    weight: i32,
+    hits: u32,
+    cycles: i32,
+    expected: &str,
+) -> Result<(), Fail> {
     let second = Access { hits, cycles };
     let found = text::<Tiered<Total>>(heap, Weighted { weight, second })?;
     check(found.as_str() == expected)
+}
+
+fn over_worst(heap: Global, weight: i32, margin: i32, expected: &str) -> Result<(), Fail> {
+    let second = Slack { margin };
+    let found = text::<Tiered<Worst>>(heap, Weighted { weight, second })?;
+    check(found.as_str() == expected)
+}
+
+#[test]
+fn tiered_worst_entries(rt: LibcRuntime) -> Result<(), Fail> {
+    let heap = rt.alloc();
+    over_worst(heap, 1_000, -1_000_000_000, "1000,-1000000000")?;
+    over_worst(heap, -1_000, 1_000_000_000, "-1000,1000000000")?;
+    over_worst(heap, 1_001, 0, "-")?;
+    over_worst(heap, -1_001, 0, "-")?;
+    over_worst(heap, 0, 1_000_000_001, "-")?;
+    over_worst(heap, 0, -1_000_000_001, "-")
 }
 
 #[test]

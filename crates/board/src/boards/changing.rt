@@ -33,7 +33,12 @@ impl<'a, K: Kind> Board<'a, K> {
         ensures { λ r. ⌜ Changed (K·Kind .model) (K·Kind .means) (held (now (self .entry))) (held (now (self .exit))) (Pair a b entries) r ⌝ }
     {
         let post = self.check_pair(a, b, entries)?;
-        self.join_pair(a.min(b), a.max(b), lower_first(a, b, post.scores), post.place);
+        self.join_pair(
+            a.min(b),
+            a.max(b),
+            lower_first(a, b, post.scores),
+            post.place,
+        );
         Ok(())
     }
 

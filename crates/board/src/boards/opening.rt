@@ -45,15 +45,28 @@ fn clear<K: Copy>(vars: &mut [Var<K>], n: usize, fresh: Var<K>)
 
 impl<'a, K: Kind> Board<'a, K> {
     // Whether a board of n variables can be opened over these records.
-    pub fn check(n: u32, vars: &[Var<K>], pairs: &[Pair<K>], history: &[Undo<K>]) -> Result<(), Refusal>
+    pub fn check(
+        n: u32,
+        vars: &[Var<K>],
+        pairs: &[Pair<K>],
+        history: &[Undo<K>],
+    ) -> Result<(), Refusal>
         ensures { λ r. ⌜ refusal-in r ≡ not-opened n (now (vars .entry)) (now (pairs .entry)) (now (history .entry)) ⌝ }
     {
         ask(few_enough(n), Refusal::Variables)?;
-        ask(long_enough(vars.len(), pairs.len(), history.len()), Refusal::Memory)
+        ask(
+            long_enough(vars.len(), pairs.len(), history.len()),
+            Refusal::Memory,
+        )
     }
 
     // A fresh board where the check says yes; otherwise one without variables.
-    pub fn open(n: u32, vars: &'a mut [Var<K>], pairs: &'a mut [Pair<K>], history: &'a mut [Undo<K>]) -> Board<'a, K>
+    pub fn open(
+        n: u32,
+        vars: &'a mut [Var<K>],
+        pairs: &'a mut [Pair<K>],
+        history: &'a mut [Undo<K>],
+    ) -> Board<'a, K>
         ensures { λ r. ⌜ Opened (K·Kind .model) (K·Kind .means) n (now (vars .entry)) (now (pairs .entry)) (now (history .entry)) (held r) ⌝ }
     {
         if Board::check(n, vars, pairs, history).is_err() {
@@ -63,7 +76,12 @@ impl<'a, K: Kind> Board<'a, K> {
         Board::over(vars, pairs, history, n as usize)
     }
 
-    fn over(vars: &'a mut [Var<K>], pairs: &'a mut [Pair<K>], history: &'a mut [Undo<K>], n: usize) -> Board<'a, K>
+    fn over(
+        vars: &'a mut [Var<K>],
+        pairs: &'a mut [Pair<K>],
+        history: &'a mut [Undo<K>],
+        n: usize,
+    ) -> Board<'a, K>
         ensures { λ r. ⌜ held r ≡ no-changes (now (vars .entry)) (now (pairs .entry)) (now (history .entry)) n ⌝ }
     {
         Board {

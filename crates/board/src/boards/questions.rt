@@ -50,7 +50,12 @@ fn score_four<K: Kind>(entries: Four<K::Entry>) -> Option<Four<K>>
 }
 
 impl<'a, K: Kind> Board<'a, K> {
-    pub(super) fn check_one(&self, v: u32, zero: K::Entry, one: K::Entry) -> Result<OneScores<K>, Refusal>
+    pub(super) fn check_one(
+        &self,
+        v: u32,
+        zero: K::Entry,
+        one: K::Entry,
+    ) -> Result<OneScores<K>, Refusal>
         ensures reply { λ r. ⌜ refusal-in r ≡ first-no (change-questions (K·Kind .model) (records-view (held (now (self .entry)))) (One v zero one)) ⌝ }
         ensures zero { λ r. ⌜ made r (λ s. K·Kind .model .score zero ≡ Some (K·Kind .means (s .zero))) ⌝ }
         ensures one { λ r. ⌜ made r (λ s. K·Kind .model .score one ≡ Some (K·Kind .means (s .one))) ⌝ }
@@ -62,17 +67,28 @@ impl<'a, K: Kind> Board<'a, K> {
         Ok(OneScores { zero, one })
     }
 
-    pub(super) fn check_pair(&self, a: u32, b: u32, entries: Four<K::Entry>) -> Result<PairPost<K>, Refusal>
+    pub(super) fn check_pair(
+        &self,
+        a: u32,
+        b: u32,
+        entries: Four<K::Entry>,
+    ) -> Result<PairPost<K>, Refusal>
         ensures reply { λ r. ⌜ refusal-in r ≡ first-no (change-questions (K·Kind .model) (records-view (held (now (self .entry)))) (Pair a b entries)) ⌝ }
         ensures scores { λ r. ⌜ made r (λ p. Four-scored (K·Kind .model) (K·Kind .means) entries (p .scores)) ⌝ }
         ensures place { λ r. ⌜ made r (λ p. Place (key a b) (used (held (now (self .entry)))) (p .place)) ⌝ }
     {
-        ask((a as usize) < self.n && (b as usize) < self.n, Refusal::NoVariable)?;
+        ask(
+            (a as usize) < self.n && (b as usize) < self.n,
+            Refusal::NoVariable,
+        )?;
         ask(a != b, Refusal::SameVariable)?;
         let scores = score_four::<K>(entries).ok_or(Refusal::Entry)?;
         ask(self.standing < MOST_CHANGES, Refusal::HistoryFull)?;
         let place = find(self.pairs, self.kept, a.min(b), a.max(b));
-        ask(place.is_some() || self.kept < MOST_PAIRS, Refusal::PairsFull)?;
+        ask(
+            place.is_some() || self.kept < MOST_PAIRS,
+            Refusal::PairsFull,
+        )?;
         Ok(PairPost { scores, place })
     }
 

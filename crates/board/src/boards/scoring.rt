@@ -52,7 +52,10 @@ fn var_score<K: Kind>(var: &Var<K>, v: usize, layout: &[u8]) -> K
 fn pair_score<K: Kind>(pair: &Pair<K>, layout: &[u8]) -> K
     ensures { λ r. ⌜ r ≡ pair-at (now (layout .entry)) (now (pair .entry)) ⌝ }
 {
-    pair.scores.at(is_one(layout, pair.low as usize), is_one(layout, pair.high as usize))
+    pair.scores.at(
+        is_one(layout, pair.low as usize),
+        is_one(layout, pair.high as usize),
+    )
 }
 
 // Joins on the scores of the variables.

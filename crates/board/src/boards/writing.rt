@@ -20,7 +20,14 @@ impl<'a, K: Kind> Board<'a, K> {
         ensures { λ _. ⌜ held (now (self .exit)) ≡ replace-var (held (now (self .entry))) v old new ⌝ }
     {
         let newest = self.standing;
-        write(self.history, newest, Undo { at: v, was: Was::Var(old) });
+        write(
+            self.history,
+            newest,
+            Undo {
+                at: v,
+                was: Was::Var(old),
+            },
+        );
         write(self.vars, v, new);
         self.standing = newest + 1;
     }
@@ -30,7 +37,14 @@ impl<'a, K: Kind> Board<'a, K> {
         ensures { λ _. ⌜ held (now (self .exit)) ≡ replace-pair (held (now (self .entry))) at old new ⌝ }
     {
         let newest = self.standing;
-        write(self.history, newest, Undo { at, was: Was::Pair(old) });
+        write(
+            self.history,
+            newest,
+            Undo {
+                at,
+                was: Was::Pair(old),
+            },
+        );
         write(self.pairs, at, new);
         self.standing = newest + 1;
     }
@@ -41,7 +55,14 @@ impl<'a, K: Kind> Board<'a, K> {
     {
         let newest = self.standing;
         let at = self.kept;
-        write(self.history, newest, Undo { at, was: Was::Unkept });
+        write(
+            self.history,
+            newest,
+            Undo {
+                at,
+                was: Was::Unkept,
+            },
+        );
         write(self.pairs, at, new);
         self.kept = at + 1;
         self.standing = newest + 1;

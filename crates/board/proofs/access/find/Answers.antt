@@ -18,12 +18,12 @@ returns-then-is-of g c =
     (sym (same-key-same (c .args .low, c .args .high) (pair-key p) (sym (c .is-of .ensures) ∙ c .if-is-of .taken)))
 
 pub loop-i-again : need.loop-i-again
-loop-i-again g c =
-    ( omega (arith, c .if-i-used .left)
-    , not-yet (c .args .low, c .args .high) (c .args .pairs .now) (c .loop-i .i) (c .index-pairs-i .result) (c .loop-i-test .taken) (c .index-pairs-i .is)
+loop-i-again g c = (
+  omega (arith, c .if-i-used .left),
+  not-yet (c .args .low, c .args .high) (c .args .pairs .now) (c .loop-i .i) (c .index-pairs-i .result) (c .loop-i-test .taken) (c .index-pairs-i .is)
       (sym (c .is-of .ensures) ∙ c .if-is-of .left)
-      (c .loop-i .inv .1)
-    )
+      (c .loop-i .inv .1),
+)
 
 pub returns : need.returns
 returns g c = none-left (c .args .low, c .args .high) (c .args .pairs .now) (c .loop-i .i) (c .args .used) (c .loop-i-test .left) (c .loop-i .inv .0) (c .loop-i .inv .1)

@@ -42,8 +42,7 @@ returns g c small =
     let second = is-field (c .args .line .number) 2 2 (fields (text-of (c .args .line))) _ _ (c .field-2 .ensures .bytes) (c .field-2 .ensures .place) refl (omega arith) in
     let a = read-is natural _ _ _ _ _ first value _ (c .in-Continue-first .ensures tt) in
     let b = read-is natural _ _ _ _ _ second value _ (c .in-Continue-second .ensures tt) in
-    let es = replied-ok _ _ _ (c .in-Continue-entries .ensures tt (omega arith)) in
-    (
+    let es = replied-ok _ _ _ (c .in-Continue-entries .ensures tt (omega arith)) in (
       yes-at natural _ _ (natural ∷ forms) _ _ _ _ first _ (c .in-Continue-first .ensures tt) ∙ yes-at natural _ _ forms _ _ _ _ second _ (c .in-Continue-second .ensures tt) ∙ es .0,
       λ i. pair (a i) (b i) (es .1 i),
     )

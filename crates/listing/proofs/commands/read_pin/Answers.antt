@@ -27,8 +27,7 @@ returns g c small =
     let variable = is-field (c .args .line .number) 1 1 (fields (text-of (c .args .line))) _ _ (c .field .ensures .bytes) (c .field .ensures .place) refl (omega arith) in
     let held = is-field (c .args .line .number) 2 2 (fields (text-of (c .args .line))) _ _ (c .field-2 .ensures .bytes) (c .field-2 .ensures .place) refl (omega arith) in
     let v = read-is natural _ _ _ _ _ variable value _ (c .in-Continue-variable .ensures tt) in
-    let x = read-is natural _ _ _ _ _ held value _ (c .in-Continue-value .ensures tt) in
-    (
+    let x = read-is natural _ _ _ _ _ held value _ (c .in-Continue-value .ensures tt) in (
       yes-at natural _ _ (natural ∷ []) _ _ _ _ variable _ (c .in-Continue-variable .ensures tt) ∙ yes-at natural _ _ [] _ _ _ _ held _ (c .in-Continue-value .ensures tt),
       λ i. pin (v i) (x i),
     )

@@ -9,8 +9,8 @@ use Rattle.listing.proofs.cutting.cuts.Needs.{then-b-cut, else-b-cut}
 pub loop-b-again : need.loop-b-again
 loop-b-again c =
     elim (c .if-b-cut .came) [
-      then-b-cut w ↦ omega (arith, w .count-is, pieces-here (c .args .cut) (c .args .text .now) (c .loop-b .b-index) (c .loop-b-test .taken) (w .if-b-cut .taken))
-    | else-b-cut w ↦ omega (arith, w .count-is, pieces-more (c .args .cut) (c .args .text .now) (c .loop-b .b-index) (c .loop-b-test .taken) (w .if-b-cut .left))
+      | then-b-cut w ↦ omega (arith, w .count-is, pieces-here (c .args .cut) (c .args .text .now) (c .loop-b .b-index) (c .loop-b-test .taken) (w .if-b-cut .taken))
+      | else-b-cut w ↦ omega (arith, w .count-is, pieces-more (c .args .cut) (c .args .text .now) (c .loop-b .b-index) (c .loop-b-test .taken) (w .if-b-cut .left))
     ]
 
 pub returns : need.returns

@@ -28,8 +28,7 @@ returns g c =
     let word = c .in-Continue-call .ensures tt in
     let is = word .1 ∙ ap Some (c .in-Call .is) in
     let count = right-count _ _ _ _ _ (c .cuts .ensures .count) (c .cuts .ensures .few) (word-short (c .args .self .number) (text-of (c .args .self)) (word .0)) (c .field-count .ensures) (c .if-cuts-field-count .left) in
-    let read = c .in-Continue-read-call .ensures tt (count .1) in
-    (
+    let read = c .in-Continue-read-call .ensures tt (count .1) in (
       command-yes (c .args .self .number) (text-of (c .args .self)) (g .E·EntryFields .form) (c .in-Call .call) is (word .0) (count .0) ∙ ap (mapped Field) (read .0),
       command-is (c .args .self .number) (text-of (c .args .self)) (g .E·EntryFields .form) (c .in-Call .call) is ∙ ap Some (sym (read .1)),
     )

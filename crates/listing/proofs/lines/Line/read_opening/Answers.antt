@@ -46,4 +46,4 @@ returns c =
     let read = replied-ok _ _ _ (c .in-Continue-board .ensures tt) in
     ap Ok (read .1)
     ∙ ap (λ o. replied o (opening-of (fields (text-of (c .args .self)))))
-      (sym (opening-yes (c .args .self .number) (text-of (c .args .self)) (word .0) (word .1 ∙ ap Some (c .in-Board .is)) count ∙ ap (mapped Field) (read .0)))
+    (sym (opening-yes (c .args .self .number) (text-of (c .args .self)) (word .0) (word .1 ∙ ap Some (c .in-Board .is)) count ∙ ap (mapped Field) (read .0)))
