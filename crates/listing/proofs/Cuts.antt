@@ -75,3 +75,11 @@ pieces-more cut bs i inside e =
     at-drop-more (λ l. length (pieces cut l)) bs i 0 inside
     ∙ ap length (cond-false (eqb (getD bs i 0) cut) ([] ∷ pieces cut (drop (i + 1) bs)) (onto (getD bs i 0) (pieces cut (drop (i + 1) bs))) (ne-eqb _ _ e))
     ∙ length-onto (getD bs i 0) (pieces cut (drop (i + 1) bs)) (pieces-some cut (drop (i + 1) bs))
+
+few-by : (t : Bool) (b n : ℕ) (ps : List (List ℕ)) → 1 ≤ length ps → length ps ≤ n → length (cond t ([] ∷ ps) (onto b ps)) ≤ suc n
+few-by true b n ps some h = omega arith
+few-by false b n ps some h = omega (arith, length-onto b ps some)
+
+pub pieces-few : (cut : ℕ) (bs : List ℕ) → length (pieces cut bs) ≤ suc (length bs)
+pieces-few cut [] = omega arith
+pieces-few cut (b ∷ bs) = few-by (eqb b cut) b (suc (length bs)) (pieces cut bs) (pieces-some cut bs) (pieces-few cut bs)

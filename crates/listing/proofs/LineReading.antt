@@ -4,7 +4,7 @@ use mathlib.Core.Bool.{Bool, true, false, not, cond}
 use mathlib.Core.List.{List, [], _∷_, _++_}
 use Prim.Native.Nat.{ℕ, suc, _+_, _-_, _≤_, _<_, _^_, min}
 use native.Mathlib.Omega.{arith}
-use borrow.Author.Tests.{leb-true, eq-eqb, ne-eqb}
+use borrow.Author.Tests.{leb-true, eq-eqb, ne-eqb, true-eqb, false-eqb}
 use lib.Dec.{leb, eqb}
 use lib.ListN.{length, getD}
 use Rattle.std.specs.Options.{isSome, mapped}
@@ -16,7 +16,7 @@ use Rattle.listing.specs.declared.faults.LineFault.the-variants.{TooLong, Unkn
 use Rattle.listing.specs.declared.words.Call.{Call as CallWord}
 use Rattle.listing.specs.declared.words.Word.{Word}
 use Rattle.listing.specs.declared.words.Word.the-variants.{Board, Call}
-use Rattle.listing.specs.Text.{fields}
+use Rattle.listing.specs.Text.{comma, fields}
 use Rattle.listing.specs.Questions.{Question, first-no}
 use Rattle.listing.specs.Forms.{Form}
 use Rattle.listing.specs.Lines.{field-questions}
@@ -24,6 +24,7 @@ use Rattle.listing.specs.Entries.{EntryForm}
 use Rattle.listing.specs.Commands.{said, call-forms}
 use Rattle.listing.specs.Reading.{line-limit, word-at, word-questions, inside, line-questions, opens, opening-forms, opening-questions, word-forms, command-questions, said-by, command-of}
 use Rattle.listing.proofs.Answers.{first-after, first-among}
+use Rattle.listing.proofs.Cuts.{pieces-few}
 
 inside-by : (t : Bool) (f : FieldFault) (o : Option LineFault) (o′ : Option FieldFault) → o ≡ mapped Field o′ → cond t o (Some (Field f)) ≡ mapped Field (cond t o′ (Some f))
 inside-by true f o o′ e = e
@@ -38,7 +39,7 @@ short-by n true e f o h = leb-true n line-limit e
 short-by n false e f o h = let z : _≡_ {A = ℕ} 0 1 = cc in absurd (omega arith)
 
 -- a line whose word is read is short
-pub word-short : (number : ℕ) (line : List ℕ) → first-no (word-questions number line) ≡ None → length line ≤ line-limit
+word-short : (number : ℕ) (line : List ℕ) → first-no (word-questions number line) ≡ None → length line ≤ line-limit
 word-short number line h = short-by (length line) (leb (length line) line-limit) refl (TooLong number) (first-no ((isSome (word-at line), UnknownWord number) ∷ [])) h
 
 module _ (number : ℕ) (line : List ℕ) where
@@ -84,9 +85,13 @@ module _ (number : ℕ) (line : List ℕ) where
     pub command-is : command-of M line ≡ Some (said M call (fields line))
     command-is = ap (λ x. said-by M x (fields line)) w
 
--- the count that is compared: as many commas as fields after the word
-pub right-count : (cuts count n limit all : ℕ) → cuts + 1 ≡ all → cuts ≤ limit → limit ≤ line-limit → count ≡ min n (2 ^ 64 - 1) → cuts ≡ count → (all ≡ suc n) × (1 + n < 2 ^ 64)
-right-count cuts count n limit all a b l e f = omega arith
+-- the number of fields that is compared fits, since the line is short
+module _ (number : ℕ) (line : List ℕ) (h : first-no (word-questions number line) ≡ None) (count n : ℕ) (e : count ≡ min n (2 ^ 64 - 1)) where
+  few-fields : length (fields line) ≤ 401
+  few-fields = omega (arith, pieces-few comma line, word-short number line h)
 
-pub wrong-count : (cuts count n limit all : ℕ) → cuts + 1 ≡ all → cuts ≤ limit → limit ≤ line-limit → count ≡ min n (2 ^ 64 - 1) → (cuts ≡ count → ⊥) → all ≡ suc n → ⊥
-wrong-count cuts count n limit all a b l e f g = f (omega arith)
+  pub right-count : true ≡ eqb (length (fields line)) (count + 1) → (length (fields line) ≡ suc n) × (1 + n < 2 ^ 64)
+  right-count t = let same = true-eqb _ _ t in let few = few-fields in omega arith
+
+  pub wrong-count : false ≡ eqb (length (fields line)) (count + 1) → length (fields line) ≡ suc n → ⊥
+  wrong-count t g = let few = few-fields in false-eqb _ _ t (omega arith)

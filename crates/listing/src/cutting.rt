@@ -38,8 +38,7 @@ pub fn tail(text: &[u8], cut: u8) -> &[u8]
 
 // How many bytes `cut` there are: one less than the pieces that they part.
 pub fn cuts(text: &[u8], cut: u8) -> usize
-    ensures count { λ r. ⌜ r + 1 ≡ length (pieces cut (now (text .entry))) ⌝ }
-    ensures few { λ r. ⌜ r ≤ length (now (text .entry)) ⌝ }
+    ensures { λ r. ⌜ r + 1 ≡ length (pieces cut (now (text .entry))) ⌝ }
 {
     let mut count = 0;
     for b in text {

@@ -28,16 +28,27 @@ pub trait EntryFields: Copy {
         ensures { λ r. ⌜ (index + length (form .forms) < 2 ^ 64 → r ≡ entry-reply form (line .entry .number) index (fields (text-of (line .entry)))) ⌝ };
 }
 
+// The index of the field that stands so many fields further on.
+fn onward(index: usize, count: usize) -> usize
+    ensures { λ r. ⌜ (index + count < 2 ^ 64 → r ≡ index + count) ⌝ }
+{
+    index.saturating_add(count)
+}
+
+const ACCESS_FIELDS: usize = 2;
+
+const SLACK_FIELDS: usize = 1;
+
 pub impl EntryFields for Access as AccessFields {
     ghost form = { access-form };
 
     fn field_count() -> usize {
-        2
+        ACCESS_FIELDS
     }
 
     fn read(line: Line<'_>, index: usize) -> Result<Access, FieldFault> {
         let hits = line.field(index).natural()?;
-        let cycles = line.field(index.saturating_add(1)).integer()?;
+        let cycles = line.field(onward(index, 1)).integer()?;
         Ok(Access { hits, cycles })
     }
 }
@@ -46,7 +57,7 @@ pub impl EntryFields for Slack as SlackFields {
     ghost form = { slack-form };
 
     fn field_count() -> usize {
-        1
+        SLACK_FIELDS
     }
 
     fn read(line: Line<'_>, index: usize) -> Result<Slack, FieldFault> {
@@ -64,7 +75,7 @@ pub impl<E: EntryFields> EntryFields for Weighted<E> as WeightedFields {
 
     fn read(line: Line<'_>, index: usize) -> Result<Weighted<E>, FieldFault> {
         let weight = line.field(index).integer()?;
-        let second = E::read(line, index.saturating_add(1))?;
+        let second = E::read(line, onward(index, 1))?;
         Ok(Weighted { weight, second })
     }
 }
@@ -85,7 +96,7 @@ pub impl<E: EntryFields> EntryFields for ByValue<E> as ByValueFields {
 
     fn read(line: Line<'_>, index: usize) -> Result<ByValue<E>, FieldFault> {
         let zero = E::read(line, index)?;
-        let one = E::read(line, index.saturating_add(E::field_count()))?;
+        let one = E::read(line, onward(index, E::field_count()))?;
         Ok(ByValue { zero, one })
     }
 }

@@ -21,6 +21,16 @@ pub struct Line<'a> {
 }
 
 impl<'a> Line<'a> {
+    // The place of the field with this index, from 0. Places are counted from 1.
+    fn place(self, index: usize) -> Place
+        ensures { λ r. ⌜ (index + 1 < 2 ^ 64 → r ≡ place-at (self .entry .number) index) ⌝ }
+    {
+        Place {
+            line: self.number,
+            field: index.saturating_add(1),
+        }
+    }
+
     // The field with this index, from 0; empty where there is none.
     pub fn field(self, index: usize) -> Part<'a>
         ensures bytes { λ r. ⌜ bytes-of r ≡ getD (fields (text-of (self .entry))) index [] ⌝ }
@@ -30,13 +40,9 @@ impl<'a> Line<'a> {
         for _i in 0..index {
             rest = tail(rest, COMMA);
         }
-        let place = Place {
-            line: self.number,
-            field: index.saturating_add(1),
-        };
         Part {
             bytes: head(rest, COMMA),
-            place,
+            place: self.place(index),
         }
     }
 }

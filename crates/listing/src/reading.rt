@@ -1,5 +1,8 @@
 // Reads a line: its word, its place in the listing, the number of its fields, and then field by field.
 ghost use mathlib.Core.Path.{_≡_};
+ghost use Prim.Native.Nat.{_+_};
+ghost use lib.Dec.{eqb};
+ghost use lib.ListN.{length};
 ghost use Rattle.std.specs.Results.{Cases};
 ghost use Rattle.std.specs.declared.option.Option.the-variants.{Some, None};
 ghost use Rattle.listing.specs.Text.{fields};
@@ -28,6 +31,13 @@ const LINE_BYTES: usize = 400;
 const BOARD_FIELDS: usize = 2;
 
 impl<'a> Line<'a> {
+    // Whether so many fields stand after the word.
+    fn has_fields(self, count: usize) -> bool
+        ensures { λ r. ⌜ r ≡ eqb (length (fields (text-of (self .entry)))) (count + 1) ⌝ }
+    {
+        cuts(self.text, COMMA) == count
+    }
+
     fn word(self) -> Result<Word, LineFault>
         ensures { λ r. ⌜ Cases r (λ w. (first-no (word-questions (self .entry .number) (text-of (self .entry))) ≡ None) × (word-at (text-of (self .entry)) ≡ Some w)) (λ f. first-no (word-questions (self .entry .number) (text-of (self .entry))) ≡ Some f) ⌝ }
     {
@@ -54,7 +64,7 @@ impl<'a> Line<'a> {
         let Word::Board = self.word()? else {
             return Err(LineFault::Misplaced(self.number));
         };
-        if cuts(self.text, COMMA) != BOARD_FIELDS {
+        if !self.has_fields(BOARD_FIELDS) {
             return Err(LineFault::FieldCount(self.number));
         }
         Ok(self.board()?)
@@ -66,7 +76,7 @@ impl<'a> Line<'a> {
         let Word::Call(call) = self.word()? else {
             return Err(LineFault::Misplaced(self.number));
         };
-        if cuts(self.text, COMMA) != field_count::<E>(call) {
+        if !self.has_fields(field_count::<E>(call)) {
             return Err(LineFault::FieldCount(self.number));
         }
         Ok(read_call(self, call)?)

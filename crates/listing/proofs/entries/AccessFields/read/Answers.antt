@@ -22,7 +22,7 @@ returns-in-Break-hits c small =
 
 pub returns-in-Break-cycles : need.returns-in-Break-cycles
 returns-in-Break-cycles c small =
-    let next : c .saturating-add .result ≡ c .args .index + 1 = omega arith in
+    let next : c .onward .result ≡ c .args .index + 1 = c .onward .ensures (omega arith) in
     let hits = is-field (c .args .line .number) (c .args .index) (c .args .index) (fields (text-of (c .args .line))) _ _ (c .field .ensures .bytes) (c .field .ensures .place) refl (omega arith) in
     let cycles = is-field (c .args .line .number) (c .args .index + 1) _ (fields (text-of (c .args .line))) _ _ (c .field-2 .ensures .bytes) (c .field-2 .ensures .place) next (omega arith) in
     passed-on (c .from-residual-in-Break-cycles .result) _ _ (c .from-residual-in-Break-cycles .ensures .1)
@@ -30,7 +30,7 @@ returns-in-Break-cycles c small =
 
 pub returns : need.returns
 returns c small =
-    let next : c .saturating-add .result ≡ c .args .index + 1 = omega arith in
+    let next : c .onward .result ≡ c .args .index + 1 = c .onward .ensures (omega arith) in
     let hits = is-field (c .args .line .number) (c .args .index) (c .args .index) (fields (text-of (c .args .line))) _ _ (c .field .ensures .bytes) (c .field .ensures .place) refl (omega arith) in
     let cycles = is-field (c .args .line .number) (c .args .index + 1) _ (fields (text-of (c .args .line))) _ _ (c .field-2 .ensures .bytes) (c .field-2 .ensures .place) next (omega arith) in
     let fits : SFits w32 (c .in-Continue-cycles .cycles) = search needs in

@@ -22,14 +22,14 @@ returns-in-Break-weight g c small =
 
 pub returns-in-Break-second : need.returns-in-Break-second
 returns-in-Break-second g c small =
-    let next : c .saturating-add .result ≡ c .args .index + 1 = omega arith in
+    let next : c .onward .result ≡ c .args .index + 1 = c .onward .ensures (omega arith) in
     let weight = is-field (c .args .line .number) (c .args .index) (c .args .index) (fields (text-of (c .args .line))) _ _ (c .field .ensures .bytes) (c .field .ensures .place) refl (omega arith) in
     passed-on (c .from-residual-in-Break-second .result) _ _ (c .from-residual-in-Break-second .ensures .1)
     (second-no (g .E·EntryFields .form) _ _ _ _ _ _ _ weight (c .in-Continue-weight .ensures tt) _ (ap (λ i. entry-reply (g .E·EntryFields .form) (c .args .line .number) i (fields (text-of (c .args .line)))) next) (c .in-Break-second .ensures tt (omega arith)))
 
 pub returns : need.returns
 returns g c small =
-    let next : c .saturating-add .result ≡ c .args .index + 1 = omega arith in
+    let next : c .onward .result ≡ c .args .index + 1 = c .onward .ensures (omega arith) in
     let weight = is-field (c .args .line .number) (c .args .index) (c .args .index) (fields (text-of (c .args .line))) _ _ (c .field .ensures .bytes) (c .field .ensures .place) refl (omega arith) in
     let fits : SFits w32 (c .in-Continue-weight .weight) = search needs in
     ap (λ z. Ok (record { weight = z; second = c .in-Continue-second .second })) (toZ-ofZ w32 (c .in-Continue-weight .weight) fits)

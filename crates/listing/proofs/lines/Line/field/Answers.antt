@@ -1,8 +1,6 @@
-use mathlib.Core.Path.{_≡_, ap}
-use Prim.Native.Nat.{_+_}
+use mathlib.Core.Path.{_≡_}
 use native.Mathlib.Omega.{arith}
 use Rattle.listing.specs.Text.{comma}
-use Rattle.listing.specs.declared.faults.Place.{Place}
 use Rattle.listing.proofs.Pieces.{left-start, left-more, left-end}
 use Rattle.listing.proofs.lines.Line.field.Needs as need
 
@@ -17,5 +15,5 @@ returns c =
     let reached : c .loop-i .-i ≡ c .args .index = omega arith in
     record {
       bytes = left-end comma (c .args .self .text .now) (c .args .index) (c .loop-i .rest .now) (c .head .result .now) (rw (← reached) (c .loop-i .inv)) (c .head .ensures);
-      place = λ small. let next : c .saturating-add .result ≡ c .args .index + 1 = omega arith in rw next;
+      place = c .place .ensures;
     }

@@ -1,5 +1,5 @@
 use mathlib.Core.Path.{_≡_, refl, sym, ap, _∙_}
-use native.Mathlib.Omega.{arith}
+use borrow.Author.Tests.{true-eqb, false-eqb}
 use Prim.Native.Nat.{ℕ, suc}
 use lib.ListN.{length}
 use Rattle.std.specs.Options.{mapped}
@@ -25,16 +25,16 @@ returns-in-rest c =
     let word = c .in-Continue-word .ensures tt in
     ap (λ o. replied o (opening-of (fields (text-of (c .args .self))))) (sym (opening-place-no (c .args .self .number) (text-of (c .args .self)) _ (word .0) (word .1 ∙ ap Some (c .in-rest .is))))
 
-pub returns-then-cuts-ne-BOARD-FIELDS : need.returns-then-cuts-ne-BOARD-FIELDS
-returns-then-cuts-ne-BOARD-FIELDS c =
+pub returns-then-not-has-fields : need.returns-then-not-has-fields
+returns-then-not-has-fields c =
     let word = c .in-Continue-word .ensures tt in
     ap (λ o. replied o (opening-of (fields (text-of (c .args .self)))))
-    (sym (opening-count-no (c .args .self .number) (text-of (c .args .self)) (word .0) (word .1 ∙ ap Some (c .in-Board .is)) (λ e. c .if-cuts-ne-BOARD-FIELDS .taken (omega arith))))
+    (sym (opening-count-no (c .args .self .number) (text-of (c .args .self)) (word .0) (word .1 ∙ ap Some (c .in-Board .is)) (false-eqb _ _ (c .if-not-has-fields .ensures tt))))
 
 pub returns-in-Break-board : need.returns-in-Break-board
 returns-in-Break-board c =
     let word = c .in-Continue-word .ensures tt in
-    let count : length (fields (text-of (c .args .self))) ≡ 3 = omega arith in
+    let count : length (fields (text-of (c .args .self))) ≡ 3 = true-eqb _ _ (c .if-not-has-fields .ensures tt) in
     passed-on (c .from-residual-in-Break-board .result) _ _ (c .from-residual-in-Break-board .ensures .1)
     (ap (λ o. replied o (opening-of (fields (text-of (c .args .self)))))
     (sym (opening-yes (c .args .self .number) (text-of (c .args .self)) (word .0) (word .1 ∙ ap Some (c .in-Board .is)) count ∙ ap (mapped Field) (replied-err _ _ _ (c .in-Break-board .ensures tt)))))
@@ -42,7 +42,7 @@ returns-in-Break-board c =
 pub returns : need.returns
 returns c =
     let word = c .in-Continue-word .ensures tt in
-    let count : length (fields (text-of (c .args .self))) ≡ 3 = omega arith in
+    let count : length (fields (text-of (c .args .self))) ≡ 3 = true-eqb _ _ (c .if-not-has-fields .ensures tt) in
     let read = replied-ok _ _ _ (c .in-Continue-board .ensures tt) in
     ap Ok (read .1)
     ∙ ap (λ o. replied o (opening-of (fields (text-of (c .args .self)))))
