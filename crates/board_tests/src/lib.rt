@@ -1,3 +1,6 @@
 // Boards worked at their limits.
+
+#![tactic(auto)]
+
 #[cfg(test)]
 mod tests;

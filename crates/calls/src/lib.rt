@@ -1,4 +1,7 @@
 // The calls that a board answers, and what they mean: the list of standing changes.
+
+#![tactic(auto)]
+
 pub mod answers;
 pub mod changes;
 pub mod claims;

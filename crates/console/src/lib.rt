@@ -1,4 +1,7 @@
 // A command of a listing, sent to a board.
+
+#![tactic(auto)]
+
 ghost use Rattle.std.specs.Prelude.{◌≡◌, map, IfOk, OnErr};
 ghost use Rattle.board.specs.Sending.{Replied};
 ghost use Rattle.board.specs.Tables.{held};

@@ -1,4 +1,7 @@
 // Reads a listing from standard input, and answers each of its lines.
+
+#![tactic(auto)]
+
 use board::boards::Board;
 use console::answer;
 use fields::parts::BoardKind;

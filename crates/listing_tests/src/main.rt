@@ -1,5 +1,8 @@
 // Reads listings, one to a line of standard input, and prints what each line of them is taken for.
 // In a listing, \n stands for a line feed, \xHH for the byte HH, and \N*C for N bytes C.
+
+#![tactic(auto)]
+
 use fields::parts::{BoardKind, Part};
 use listing::commands::{Command, Opening};
 use listing::entries::EntryFields;

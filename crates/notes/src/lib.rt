@@ -1,4 +1,7 @@
 // What a search writes down: the removals, the layout that is read from them, and the open splits.
+
+#![tactic(auto)]
+
 pub mod claims;
 pub mod layouts;
 pub mod removal;

@@ -1,3 +1,6 @@
 // The partners of a worksheet's variables, read off the pairs.
+
+#![tactic(auto)]
+
 pub mod links;
 pub mod tallies;

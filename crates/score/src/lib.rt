@@ -1,4 +1,7 @@
 // Score kinds: what a score is, and the kinds that are delivered.
+
+#![tactic(auto)]
+
 pub mod choice;
 pub mod claims;
 pub mod interface;

@@ -1,6 +1,9 @@
 // The theory of worksheets and of the steps of solve.
 //
 // Each function's contract is a theorem about every score kind: where the theorem needs no kind, the function names none.
+
+#![tactic(auto)]
+
 ghost use Rattle.std.specs.Prelude.{◌^◌, Bool, true, false};
 ghost use Rattle.steps.specs.Examples.{Examples};
 ghost use Rattle.steps.specs.Claims.{RemovalsKeepBest, SettingStands, ExploredGreatest, ExploredOnce, ExploredAlways, SplitsBounded, BankSplitsWithin, StartStands, StartAtOnce, SolveStands, UnpinnedStands, BanksChoose, EntriesStand};

@@ -1,4 +1,7 @@
 // Worksheets over lent records: their removals, the counts of partners, and their bounds.
+
+#![tactic(auto)]
+
 pub mod bounds;
 pub mod claims;
 pub mod degrees;

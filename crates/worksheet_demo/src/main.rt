@@ -1,4 +1,7 @@
 // Works a little worksheet down by each removal and asks each bound about it, for every kind, and prints what it did.
+
+#![tactic(auto)]
+
 ghost use Rattle.std.specs.Prelude.{Some};
 ghost use Rattle.std.proofs.Common.{rules};
 
