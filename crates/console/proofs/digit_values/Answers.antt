@@ -5,8 +5,8 @@ use Rattle.console.proofs.digit_values.Goals as goal
 
 pub loop-digit-preserved : goal.loop-digit-preserved
 loop-digit-preserved c =
-    c.in-ok-push.ensures.items
-    ∙ (λ i. c.loop-digit.invariant i ++ (c.saturating-sub.ensures i ∷ []))
+    c.in_ok-push.ensures.items
+    ∙ (λ i. c.loop-digit.invariant i ++ (c.saturating_sub.ensures i ∷ []))
     ∙ sym (map_more digit_value c.args.digits.now c.loop-digit.digit-index 0 c.loop-digit-test.true)
 
 pub returns : goal.returns

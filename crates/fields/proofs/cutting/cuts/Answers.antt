@@ -8,8 +8,8 @@ use Rattle.fields.proofs.cutting.cuts.Goals.{then-b-cut, else-b-cut}
 pub loop-b-preserved : goal.loop-b-preserved
 loop-b-preserved c =
     elim c.if-b-cut.branch [
-      | then-b-cut w ↦ omega (arith, w.count_is, pieces_here c.args.cut c.args.text.now c.loop-b.b-index c.loop-b-test.true w.if-b-cut.true)
-      | else-b-cut w ↦ omega (arith, w.count_is, pieces_more c.args.cut c.args.text.now c.loop-b.b-index c.loop-b-test.true w.if-b-cut.false)
+      | then-b-cut w ↦ omega (arith, w.count-is, pieces_here c.args.cut c.args.text.now c.loop-b.b-index c.loop-b-test.true w.if-b-cut.true)
+      | else-b-cut w ↦ omega (arith, w.count-is, pieces_more c.args.cut c.args.text.now c.loop-b.b-index c.loop-b-test.true w.if-b-cut.false)
     ]
 
 pub returns : goal.returns

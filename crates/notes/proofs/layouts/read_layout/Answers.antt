@@ -5,6 +5,6 @@ use Rattle.notes.proofs.layouts.read_layout.Goals as goal
 
 pub returns : goal.returns
 returns c = record {
-  written = c.settle-all.ensures;
-  reads = subst (ReadFrom c.args.notes.now c.args.layout.now) (sym c.settle-all.ensures) (read_from c.args.notes.now c.args.layout.now);
+  written = c.settle_all.ensures;
+  reads = subst (ReadFrom c.args.notes.now c.args.layout.now) (sym c.settle_all.ensures) (read_from c.args.notes.now c.args.layout.now);
 }

@@ -18,8 +18,8 @@ fits c =
     let g : SFits w32 c.args.cycles = search rules in
     product_fits c.args.hits c.args.cycles h g
 
-pub overflow-mul-result : goal.overflow-mul-result
-overflow-mul-result c = rw (first c, second c) (fits c)
+pub overflow_mul-result : goal.overflow_mul-result
+overflow_mul-result c = rw (first c, second c) (fits c)
 
 pub returns : goal.returns
 returns c = rw (first c, second c) (to_z-of_z w64 (pos c.args.hits *ℤ c.args.cycles) (fits c))

@@ -5,11 +5,11 @@ use Rattle.records.proofs.Lists.{take_least, drop_later}
 use Rattle.sheets.proofs.changing.drop_pairs.Goals as goal
 use Rattle.sheets.proofs.changing.drop_pairs.Goals.{then-stays, else-stays}
 
-pub offset-bounds-pairs-i : goal.offset-bounds-pairs-i
-offset-bounds-pairs-i g c = let h : c.loop-i.i < length c.args.pairs.now = omega arith in search rules
+pub offset_bounds-pairs-i : goal.offset_bounds-pairs-i
+offset_bounds-pairs-i g c = let h : c.loop-i.i < length c.args.pairs.now = omega arith in search rules
 
-pub offset-bounds-pairs-next : goal.offset-bounds-pairs-next
-offset-bounds-pairs-next g c = let h : c.loop-i.next < length c.args.pairs.now = omega (arith, c.loop-i.invariant.behind) in search rules
+pub offset_bounds-pairs-next : goal.offset_bounds-pairs-next
+offset_bounds-pairs-next g c = let h : c.loop-i.next < length c.args.pairs.now = omega (arith, c.loop-i.invariant.behind) in search rules
 
 pub loop-i-preserved : goal.loop-i-preserved
 loop-i-preserved g c =

@@ -7,24 +7,24 @@ use Rattle.worksheet.proofs.Posting.{post_in_use, post_in_rest, post_used_within
 use Rattle.worksheet.proofs.Removed.{two_done, two_refused, two_room}
 use Rattle.worksheet.proofs.removals.remove_by_two.Goals as goal
 
-pub returns-in-err-var : goal.returns-in-err-var
-returns-in-err-var g c = rw c.from-residual.ensures
+pub returns-in_err-var : goal.returns-in_err-var
+returns-in_err-var g c = rw c.from_residual.ensures
     (record {
       left = two_refused g.K.Kind.model g.met.K.Kind.lawful g.K.Kind.means g.K.Kind.held g.met.K.Kind.exact
           c.args.vars.now c.args.vars.now (take c.args.used.now c.args.pairs.now) (take c.args.used.now c.args.pairs.now) c.args.y
-          (ap (λ ps. two_at c.args.vars.now ps c.args.y) (sym c.first.ensures) ∙ sym c.in-err-var.ensures);
-      does = if_none _ _ _ (c.in-err-var.ensures ∙ ap (λ ps. two_at c.args.vars.now ps c.args.y) c.first.ensures) refl;
+          (ap (λ ps. two_at c.args.vars.now ps c.args.y) (sym c.first.ensures) ∙ sym c.in_err-var.ensures);
+      does = if_none _ _ _ (c.in_err-var.ensures ∙ ap (λ ps. two_at c.args.vars.now ps c.args.y) c.first.ensures) refl;
       unused = refl;
       refused = (refl, refl, refl);
     })
 
 pub returns : goal.returns
 returns g c =
-    let by = c.in-ok-var.field-0 in
+    let by = c.in_ok-var.field-0 in
     let all = c.args.pairs.now in
     let used = c.args.used.now in
     let at : two_at c.args.vars.now (take used all) c.args.y ≡ Some by
-    = ap (λ ps. two_at c.args.vars.now ps c.args.y) (sym c.first.ensures) ∙ sym c.in-ok-var.ensures in
+    = ap (λ ps. two_at c.args.vars.now ps c.args.y) (sym c.first.ensures) ∙ sym c.in_ok-var.ensures in
     let room = two_room g.K.Kind.model g.met.K.Kind.lawful g.K.Kind.means g.K.Kind.held g.met.K.Kind.exact
     c.args.vars.now all c.drop_pairs_rest.new.pairs used c.drop_pairs_rest.result c.args.y by at
     c.drop_pairs_rest.ensures.kept c.drop_pairs_rest.ensures.within c.drop_pairs_rest.auto.pairs in

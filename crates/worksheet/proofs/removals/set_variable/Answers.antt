@@ -4,13 +4,13 @@ use Rattle.worksheet.proofs.Does.{if_none, if_some}
 use Rattle.worksheet.proofs.Removed.{set_done, set_refused}
 use Rattle.worksheet.proofs.removals.set_variable.Goals as goal
 
-pub returns-in-err-var : goal.returns-in-err-var
-returns-in-err-var g c = rw c.from-residual.ensures
+pub returns-in_err-var : goal.returns-in_err-var
+returns-in_err-var g c = rw c.from_residual.ensures
     (record {
       left = set_refused g.K.Kind.model g.met.K.Kind.lawful g.K.Kind.means g.K.Kind.held g.met.K.Kind.exact
           c.args.base.now c.args.base.now c.args.vars.now c.args.vars.now
-          (take c.args.used.now c.args.pairs.now) (take c.args.used.now c.args.pairs.now) c.args.y c.args.value (sym c.in-err-var.ensures);
-      does = if_none _ _ _ c.in-err-var.ensures refl;
+          (take c.args.used.now c.args.pairs.now) (take c.args.used.now c.args.pairs.now) c.args.y c.args.value (sym c.in_err-var.ensures);
+      does = if_none _ _ _ c.in_err-var.ensures refl;
       unused = refl;
       refused = (refl, refl, refl, refl);
     })
@@ -21,15 +21,15 @@ returns g c =
     let y = c.args.y in
     let gone_at : c.write.new.items ≡ set c.args.vars.now y c.gone.result = c.write.ensures in
     let base_is = c.join.ensures ∙ ap (J c.args.base.now) c.at.ensures in
-    let vars_are = c.hand-over.ensures
+    let vars_are = c.hand_over.ensures
     ∙ ap (λ vs. handed J y c.args.value vs c.first.result.now) (gone_at ∙ ap (set c.args.vars.now y) c.gone.ensures)
     ∙ ap (handed J y c.args.value _) c.first.ensures in
     record {
       left = set_done g.K.Kind.model g.met.K.Kind.lawful g.K.Kind.means J g.met.K.Kind.exact
-          c.args.base.now _ c.args.vars.now _ (take c.args.used.now c.args.pairs.now) _ y c.args.value c.in-ok-var.var _
-          (sym c.in-ok-var.ensures) base_is vars_are c.drop-pairs.ensures.kept c.set_note.ensures;
-      does = if_some _ _ _ c.in-ok-var.var c.in-ok-var.ensures
-          (record { base_is = base_is; vars_are = vars_are; pairs_are = c.drop-pairs.ensures.kept; within = c.drop-pairs.ensures.within; note_is = ap Some c.set_note.ensures });
-      unused = c.drop-pairs.ensures.rest;
+          c.args.base.now _ c.args.vars.now _ (take c.args.used.now c.args.pairs.now) _ y c.args.value c.in_ok-var.var _
+          (sym c.in_ok-var.ensures) base_is vars_are c.drop_pairs.ensures.kept c.set_note.ensures;
+      does = if_some _ _ _ c.in_ok-var.var c.in_ok-var.ensures
+          (record { base_is = base_is; vars_are = vars_are; pairs_are = c.drop_pairs.ensures.kept; within = c.drop_pairs.ensures.within; note_is = ap Some c.set_note.ensures });
+      unused = c.drop_pairs.ensures.rest;
       refused = tt;
     }

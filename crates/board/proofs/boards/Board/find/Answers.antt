@@ -7,5 +7,5 @@ use Rattle.board.proofs.boards.Board.find.Goals as goal
 pub returns : goal.returns
 returns g c =
     let kept = used (held c.args.self.now) in
-    let found = c.place-of.ensures ∙ ap (place c.args.low c.args.high) c.first.ensures in
+    let found = c.place_of.ensures ∙ ap (place c.args.low c.args.high) c.first.ensures in
     subst (Place (c.args.low, c.args.high) kept) (sym found) (place_is c.args.low c.args.high kept)

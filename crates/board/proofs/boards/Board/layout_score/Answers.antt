@@ -9,6 +9,6 @@ returns g c =
     let M = g.K.Kind.model in
     let means = g.K.Kind.means in
     let layout = c.args.layout.now in
-    joined_all M g.met.K.Kind.lawful means (held c.args.self.now) layout _ c.join-vars-ones.result _ c.neutral.ensures
-    (subst (λ rs. JoinsOn M means (vars_at layout 0 rs) c.neutral.result [] c.join-vars-ones.result) c.first.ensures c.join-vars-ones.ensures)
-    (subst (λ ps. JoinsOn M means (pairs_at layout ps) c.join-vars-ones.result [] c.join-pairs.result) c.first-2.ensures c.join-pairs.ensures)
+    joined_all M g.met.K.Kind.lawful means (held c.args.self.now) layout _ c.join_vars-ones.result _ c.neutral.ensures
+    (subst (λ rs. JoinsOn M means (vars_at layout 0 rs) c.neutral.result [] c.join_vars-ones.result) c.first.ensures c.join_vars-ones.ensures)
+    (subst (λ ps. JoinsOn M means (pairs_at layout ps) c.join_vars-ones.result [] c.join_pairs.result) c.first-2.ensures c.join_pairs.ensures)

@@ -8,26 +8,26 @@ use Rattle.listing.specs.Entries.{access_form}
 use Rattle.listing.proofs.EntryReading.{passed_on, is_field, read_no, read_yes, read_is}
 use Rattle.listing.proofs.entries.AccessEntryFields.read.Goals as goal
 
-pub returns-in-err-hits : goal.returns-in-err-hits
-returns-in-err-hits c small =
+pub returns-in_err-hits : goal.returns-in_err-hits
+returns-in_err-hits c small =
     let hits = is_field c.args.line.number c.args.index c.args.index (fields (text_of c.args.line)) _ _ c.field.ensures.bytes c.field.ensures.place refl (omega arith) in
-    passed_on c.from-residual.result _ _ c.from-residual.ensures.1 (read_no natural _ _ (integer ∷ []) _ _ _ _ _ hits _ c.in-err-hits.ensures)
+    passed_on c.from_residual.result _ _ c.from_residual.ensures.1 (read_no natural _ _ (integer ∷ []) _ _ _ _ _ hits _ c.in_err-hits.ensures)
 
-pub returns-in-err-cycles : goal.returns-in-err-cycles
-returns-in-err-cycles c small =
+pub returns-in_err-cycles : goal.returns-in_err-cycles
+returns-in_err-cycles c small =
     let next : c.onward.result ≡ c.args.index + 1 = c.onward.ensures (omega arith) in
     let hits = is_field c.args.line.number c.args.index c.args.index (fields (text_of c.args.line)) _ _ c.field.ensures.bytes c.field.ensures.place refl (omega arith) in
     let cycles = is_field c.args.line.number (c.args.index + 1) _ (fields (text_of c.args.line)) _ _ c.field-2.ensures.bytes c.field-2.ensures.place next (omega arith) in
-    passed_on c.from-residual-in-err-cycles.result _ _ c.from-residual-in-err-cycles.ensures.1
-    (read_no integer _ _ [] _ _ _ _ _ cycles _ c.in-err-cycles.ensures ∙ read_yes natural _ _ (integer ∷ []) _ _ _ _ _ hits _ c.in-ok-hits.ensures)
+    passed_on c.from_residual-in_err-cycles.result _ _ c.from_residual-in_err-cycles.ensures.1
+    (read_no integer _ _ [] _ _ _ _ _ cycles _ c.in_err-cycles.ensures ∙ read_yes natural _ _ (integer ∷ []) _ _ _ _ _ hits _ c.in_ok-hits.ensures)
 
 pub returns : goal.returns
 returns c small =
     let next : c.onward.result ≡ c.args.index + 1 = c.onward.ensures (omega arith) in
     let hits = is_field c.args.line.number c.args.index c.args.index (fields (text_of c.args.line)) _ _ c.field.ensures.bytes c.field.ensures.place refl (omega arith) in
     let cycles = is_field c.args.line.number (c.args.index + 1) _ (fields (text_of c.args.line)) _ _ c.field-2.ensures.bytes c.field-2.ensures.place next (omega arith) in
-    let fits : SFits w32 c.in-ok-cycles.cycles = search rules in
-    let h = read_is natural _ _ _ _ _ hits value _ c.in-ok-hits.ensures in
-    let k = to_z-of_z w32 _ fits ∙ read_is integer _ _ _ _ _ cycles signed_value _ c.in-ok-cycles.ensures in
+    let fits : SFits w32 c.in_ok-cycles.cycles = search rules in
+    let h = read_is natural _ _ _ _ _ hits value _ c.in_ok-hits.ensures in
+    let k = to_z-of_z w32 _ fits ∙ read_is integer _ _ _ _ _ cycles signed_value _ c.in_ok-cycles.ensures in
     ap Ok (λ i. record { hits = h i; cycles = k i })
-    ∙ read_yes integer _ _ [] _ _ _ _ _ cycles _ c.in-ok-cycles.ensures ∙ read_yes natural _ _ (integer ∷ []) _ _ _ _ _ hits _ c.in-ok-hits.ensures
+    ∙ read_yes integer _ _ [] _ _ _ _ _ cycles _ c.in_ok-cycles.ensures ∙ read_yes natural _ _ (integer ∷ []) _ _ _ _ _ hits _ c.in_ok-hits.ensures

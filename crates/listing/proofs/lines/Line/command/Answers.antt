@@ -4,6 +4,6 @@ use Rattle.listing.proofs.lines.Line.command.Goals as goal
 
 pub returns : goal.returns
 returns g c = record {
-  reply = c.read-command.ensures;
-  back = command_back g.E.EntryFields.form g.met.E.EntryFields.back c.args.self.number (text_of c.args.self) c.read-command.result c.read-command.ensures;
+  reply = c.read_command.ensures;
+  back = command_back g.E.EntryFields.form g.met.E.EntryFields.back c.args.self.number (text_of c.args.self) c.read_command.result c.read_command.ensures;
 }

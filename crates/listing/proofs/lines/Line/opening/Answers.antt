@@ -4,6 +4,6 @@ use Rattle.listing.proofs.lines.Line.opening.Goals as goal
 
 pub returns : goal.returns
 returns c = record {
-  reply = c.read-opening.ensures;
-  back = opening_back c.args.self.number (text_of c.args.self) c.read-opening.result c.read-opening.ensures;
+  reply = c.read_opening.ensures;
+  back = opening_back c.args.self.number (text_of c.args.self) c.read_opening.result c.read_opening.ensures;
 }

@@ -6,28 +6,28 @@ use Rattle.listing.proofs.CommandReading.{exits}
 use Rattle.listing.proofs.LineReading.{right_count, wrong_count, command_place_no, command_count_no, command_yes, command_is}
 use Rattle.listing.proofs.lines.Line.read_command.Goals as goal
 
-pub returns-in-default : goal.returns-in-default
-returns-in-default g c = let word = c.in-ok-call.ensures in command_place_no c.args.self.number (text_of c.args.self) g.E.EntryFields.form word.0 (word.1 ∙ ap Some c.in-default.is)
+pub returns-in_default : goal.returns-in_default
+returns-in_default g c = let word = c.in_ok-call.ensures in command_place_no c.args.self.number (text_of c.args.self) g.E.EntryFields.form word.0 (word.1 ∙ ap Some c.in_default.is)
 
-pub returns-then-not-has-fields : goal.returns-then-not-has-fields
-returns-then-not-has-fields g c =
-    let word = c.in-ok-call.ensures in
+pub returns-then-not-has_fields : goal.returns-then-not-has_fields
+returns-then-not-has_fields g c =
+    let word = c.in_ok-call.ensures in
     command_count_no c.args.self.number (text_of c.args.self) g.E.EntryFields.form c.in-Call.call (word.1 ∙ ap Some c.in-Call.is) word.0
-    (wrong_count c.args.self.number (text_of c.args.self) word.0 _ _ c.field-count.ensures c.if-not-has-fields.ensures)
+    (wrong_count c.args.self.number (text_of c.args.self) word.0 _ _ c.field_count.ensures c.if-not-has_fields.ensures)
 
-pub returns-in-err-read-call : goal.returns-in-err-read-call
-returns-in-err-read-call g c =
-    let word = c.in-ok-call.ensures in
-    let count = right_count c.args.self.number (text_of c.args.self) word.0 _ _ c.field-count.ensures c.if-not-has-fields.ensures in
-    exits c.from-residual-in-err-read-call.result _ _ _ c.from-residual-in-err-read-call.ensures.1
-    (command_yes c.args.self.number (text_of c.args.self) g.E.EntryFields.form c.in-Call.call (word.1 ∙ ap Some c.in-Call.is) word.0 count.0 ∙ ap (option_map Field) (c.in-err-read-call.ensures count.1))
+pub returns-in_err-read_call : goal.returns-in_err-read_call
+returns-in_err-read_call g c =
+    let word = c.in_ok-call.ensures in
+    let count = right_count c.args.self.number (text_of c.args.self) word.0 _ _ c.field_count.ensures c.if-not-has_fields.ensures in
+    exits c.from_residual-in_err-read_call.result _ _ _ c.from_residual-in_err-read_call.ensures.1
+    (command_yes c.args.self.number (text_of c.args.self) g.E.EntryFields.form c.in-Call.call (word.1 ∙ ap Some c.in-Call.is) word.0 count.0 ∙ ap (option_map Field) (c.in_err-read_call.ensures count.1))
 
 pub returns : goal.returns
 returns g c =
-    let word = c.in-ok-call.ensures in
+    let word = c.in_ok-call.ensures in
     let is = word.1 ∙ ap Some c.in-Call.is in
-    let count = right_count c.args.self.number (text_of c.args.self) word.0 _ _ c.field-count.ensures c.if-not-has-fields.ensures in
-    let read = c.in-ok-read-call.ensures count.1 in (
+    let count = right_count c.args.self.number (text_of c.args.self) word.0 _ _ c.field_count.ensures c.if-not-has_fields.ensures in
+    let read = c.in_ok-read_call.ensures count.1 in (
       command_yes c.args.self.number (text_of c.args.self) g.E.EntryFields.form c.in-Call.call is word.0 count.0 ∙ ap (option_map Field) read.0,
       command_is c.args.self.number (text_of c.args.self) g.E.EntryFields.form c.in-Call.call is ∙ ap Some (sym read.1),
     )

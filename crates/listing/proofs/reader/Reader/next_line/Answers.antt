@@ -2,11 +2,11 @@ use Rattle.std.proofs.Common.{◌<◌, length, refl, arith, true-eqb, false-eqb}
 use Rattle.listing.proofs.ListingReading.{next_none, next_some}
 use Rattle.listing.proofs.reader.Reader.next_line.Goals as goal
 
-pub returns-then-is-empty : goal.returns-then-is-empty
-returns-then-is-empty c text stands = next_none text c.args.self.now stands (true-eqb _ 0 c.if-is-empty.ensures)
+pub returns-then-is_empty : goal.returns-then-is_empty
+returns-then-is_empty c text stands = next_none text c.args.self.now stands (true-eqb _ 0 c.if-is_empty.ensures)
 
 pub returns : goal.returns
 returns c text stands =
-    let left = false-eqb _ 0 c.if-is-empty.ensures in
+    let left = false-eqb _ 0 c.if-is_empty.ensures in
     let more : 0 < length c.args.self.now.rest.now = omega arith in
-    next_some text c.args.self.now _ _ c.saturating-add-number.result stands more c.head_text.ensures c.saturating-add-number.ensures refl c.tail_self.ensures refl
+    next_some text c.args.self.now _ _ c.saturating_add-number.result stands more c.head_text.ensures c.saturating_add-number.ensures refl c.tail_self.ensures refl

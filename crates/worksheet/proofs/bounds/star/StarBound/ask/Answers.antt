@@ -14,7 +14,7 @@ returns g c =
       reply = λ _ arranged few.
           ap (λ k. Some (means k))
           (c.with_vars.ensures
-          ∙ ap (with_vars M means J c.args.base) (c.with-arms.ensures ∙ ap (λ ws. arms M means J ws ps) c.copy-from-slice.ensures.after))
+          ∙ ap (with_vars M means J c.args.base) (c.with_arms.ensures ∙ ap (λ ws. arms M means J ws ps) c.copy_from_slice.ensures.after))
           ∙ ap Some (star_replies M g.met.K.Kind.lawful means J g.met.K.Kind.exact c.args.base vs ps arranged few);
       short = λ h. absurd (omega arith);
     }
