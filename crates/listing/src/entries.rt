@@ -4,6 +4,7 @@ ghost use Rattle.listing.specs.Text.{fields};
 ghost use Rattle.listing.specs.Lines.{text_of};
 ghost use Rattle.listing.specs.Entries.{EntryForm, entry_reply, access_form, slack_form, weighted_form, by_value_form};
 ghost use Rattle.listing.specs.Written.{ReadsBack};
+ghost use Rattle.listing.proofs.EntryWriting.{access_back, slack_back, weighted_back, by_value_back};
 
 use crate::lines::Line;
 use fields::faults::FieldFault;
@@ -41,6 +42,8 @@ const SLACK_FIELDS: usize = 1;
 impl EntryFields for Access {
     ghost form = { access_form };
 
+    ghost back = { access_back };
+
     fn field_count() -> usize {
         ACCESS_FIELDS
     }
@@ -55,6 +58,8 @@ impl EntryFields for Access {
 impl EntryFields for Slack {
     ghost form = { slack_form };
 
+    ghost back = { slack_back };
+
     fn field_count() -> usize {
         SLACK_FIELDS
     }
@@ -67,6 +72,8 @@ impl EntryFields for Slack {
 
 impl<E: EntryFields> EntryFields for Weighted<E> {
     ghost form = { weighted_form E.EntryFields.form };
+
+    ghost back = { weighted_back E.EntryFields.form E.EntryFields.back };
 
     fn field_count() -> usize {
         E::field_count().saturating_add(1)
@@ -88,6 +95,8 @@ pub struct ByValue<E> {
 
 impl<E: EntryFields> EntryFields for ByValue<E> {
     ghost form = { by_value_form E.EntryFields.form };
+
+    ghost back = { by_value_back E.EntryFields.form E.EntryFields.back };
 
     fn field_count() -> usize {
         E::field_count().saturating_mul(2)

@@ -62,7 +62,7 @@ partners s a b = is_some (pair s a b)
 
 -- Numbers are a kind too: their join adds, and 0 is neutral.
 abbrev pub numbers : Model ℕ ℕ
-numbers = record { neutral = 0; join = ◌+◌; at_most = leb; score = Some }
+numbers = record { neutral = 0; join = ◌+◌; at_most = nat_le; score = Some }
 
 -- how many below n pass the test
 abbrev pub count : ℕ → (ℕ → Bool) → ℕ
