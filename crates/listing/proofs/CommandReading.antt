@@ -6,7 +6,7 @@ use Rattle.fields.specs.declared.faults.FieldFault.{FieldFault}
 use Rattle.fields.specs.Questions.{first_no, answered}
 use Rattle.fields.specs.Forms.{Form, asked}
 use Rattle.listing.specs.Lines.{place_at, field_questions}
-use Rattle.listing.proofs.Answers.{replied_ok, replied_err, field_yes, field_no}
+use Rattle.listing.specs.Asked.{replied_ok, replied_err, field_yes, field_no}
 use Rattle.listing.proofs.EntryReading.{IsField}
 
 -- the exit of a `?` that hands on the fault unchanged

@@ -9,7 +9,7 @@ use Rattle.fields.specs.Forms.{Form, integer, asked}
 use Rattle.listing.specs.declared.entries.ByValue.{ByValue}
 use Rattle.listing.specs.Lines.{place_at, field_questions}
 use Rattle.listing.specs.Entries.{EntryForm, entry_reply, weighted_form, by_value_form}
-use Rattle.listing.proofs.Answers.{replied_ok, replied_err, first_after, first_among, field_yes, field_no, questions_append}
+use Rattle.listing.specs.Asked.{replied_ok, replied_err, first_after, first_among, field_yes, field_no, questions_append}
 
 -- what is passed on by `?` with the fault unchanged
 pub passed_on : {A F : Type 0} (r : Result A F) (f : F) (wanted : Result A F) → IsErrAnd r (λ g. g ≡ f) → Err f ≡ wanted → r ≡ wanted

@@ -1,10 +1,7 @@
-pub mod Answers
 pub mod CommandReading
 pub mod EntryReading
-pub mod EntryWriting
 pub mod LineReading
 pub mod ListingReading
-pub mod NumberWriting
 pub mod Pieces
 pub mod RoundTrip
 pub mod Splitting

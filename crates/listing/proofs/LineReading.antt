@@ -15,7 +15,7 @@ use Rattle.listing.specs.Lines.{field_questions}
 use Rattle.listing.specs.Entries.{EntryForm}
 use Rattle.listing.specs.Commands.{said, call_forms}
 use Rattle.listing.specs.Reading.{line_limit, word_at, word_questions, inside, line_questions, opens, opening_forms, opening_questions, word_forms, command_questions, said_by, command_of}
-use Rattle.listing.proofs.Answers.{first_after, first_among}
+use Rattle.listing.specs.Asked.{first_after, first_among}
 
 inside_by : (t : Bool) (f : FieldFault) (o : Option LineFault) (o' : Option FieldFault) → o ≡ option_map Field o' → cond t o (Some (Field f)) ≡ option_map Field (cond t o' (Some f))
 inside_by true f o o' e = e

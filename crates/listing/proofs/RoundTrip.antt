@@ -27,10 +27,10 @@ use Rattle.listing.specs.Commands.{Said, one, pair, pin, free, back, score, says
 use Rattle.listing.specs.Reading.{line_limit, word_at, word_questions, opening_forms, opening_of, opening_questions, opening_reply, command_questions, command_of, CommandReply}
 use Rattle.listing.specs.RoundTrip.{opening_fields, written_opening, OpeningBack, command_fields, written_command, fits_command, CommandBack}
 use Rattle.listing.specs.Written.{ReadsBack}
-use Rattle.listing.proofs.Answers.{all_yes}
-use Rattle.listing.proofs.EntryWriting.{passes_field, passes_last, same_last, by_value_back}
+use Rattle.listing.specs.Asked.{all_yes}
+use Rattle.listing.specs.EntryWriting.{passes_field, passes_last, same_last, by_value_back}
 use Rattle.listing.proofs.LineReading.{opening_yes, command_yes, command_is}
-use Rattle.listing.proofs.NumberWriting.{natural_passes, natural_is, natural_plain, natural_short, digits_plain}
+use Rattle.listing.specs.NumberWriting.{natural_passes, natural_is, natural_plain, natural_short, digits_plain}
 use Rattle.listing.proofs.Splitting.{pieces_parted}
 
 -- the word of a line that is written out

@@ -1,7 +1,10 @@
+pub mod Asked
 pub mod Commands
 pub mod Entries
+pub mod EntryWriting
 pub mod Lines
 pub mod Listings
+pub mod NumberWriting
 pub mod Reading
 pub mod RoundTrip
 pub mod Text

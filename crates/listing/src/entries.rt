@@ -4,7 +4,7 @@ ghost use Rattle.listing.specs.Text.{fields};
 ghost use Rattle.listing.specs.Lines.{text_of};
 ghost use Rattle.listing.specs.Entries.{EntryForm, entry_reply, access_form, slack_form, weighted_form, by_value_form};
 ghost use Rattle.listing.specs.Written.{ReadsBack};
-ghost use Rattle.listing.proofs.EntryWriting.{access_back, slack_back, weighted_back, by_value_back};
+ghost use Rattle.listing.specs.EntryWriting.{access_back, slack_back, weighted_back, by_value_back};
 
 use crate::lines::Line;
 use fields::faults::FieldFault;

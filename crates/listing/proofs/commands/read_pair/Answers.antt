@@ -5,7 +5,7 @@ use Rattle.listing.specs.Text.{fields}
 use Rattle.listing.specs.Lines.{text_of}
 use Rattle.listing.specs.Entries.{by_value_form}
 use Rattle.listing.specs.Commands.{pair}
-use Rattle.listing.proofs.Answers.{replied_ok, replied_err}
+use Rattle.listing.specs.Asked.{replied_ok, replied_err}
 use Rattle.listing.proofs.CommandReading.{exits, no_at, yes_at}
 use Rattle.listing.proofs.EntryReading.{is_field, read_is}
 use Rattle.listing.proofs.commands.read_pair.Goals as goal

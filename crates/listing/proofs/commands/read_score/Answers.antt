@@ -3,7 +3,7 @@ use Rattle.fields.specs.Forms.{layout, bytes_of}
 use Rattle.listing.specs.Text.{fields}
 use Rattle.listing.specs.Lines.{text_of}
 use Rattle.listing.specs.Commands.{score}
-use Rattle.listing.proofs.Answers.{replied_ok}
+use Rattle.listing.specs.Asked.{replied_ok}
 use Rattle.listing.proofs.CommandReading.{exits, no_at, yes_at}
 use Rattle.listing.proofs.EntryReading.{is_field}
 use Rattle.listing.proofs.commands.read_score.Goals as goal

@@ -5,7 +5,7 @@ use Rattle.fields.specs.Questions.{replied}
 use Rattle.listing.specs.Text.{fields}
 use Rattle.listing.specs.Lines.{text_of}
 use Rattle.listing.specs.Reading.{opening_forms, opening_of}
-use Rattle.listing.proofs.Answers.{replied_ok, replied_err}
+use Rattle.listing.specs.Asked.{replied_ok, replied_err}
 use Rattle.listing.proofs.EntryReading.{passed_on}
 use Rattle.listing.proofs.LineReading.{word_no, opening_place_no, opening_count_no, opening_yes}
 use Rattle.listing.proofs.lines.Line.read_opening.Goals as goal

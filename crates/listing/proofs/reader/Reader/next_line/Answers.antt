@@ -9,4 +9,4 @@ pub returns : goal.returns
 returns c text stands =
     let left = false-eqb _ 0 c.if-is_empty.ensures in
     let more : 0 < length c.args.self.now.rest.now = omega arith in
-    next_some text c.args.self.now _ _ c.saturating_add-number.result stands more c.head_text.ensures c.saturating_add-number.ensures refl c.tail_self.ensures refl
+    next_some text c.args.self.now _ _ c.saturating_add-number.result stands more c.head-text.ensures c.saturating_add-number.ensures refl c.tail-self.ensures refl

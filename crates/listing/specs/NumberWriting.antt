@@ -17,7 +17,7 @@ use Rattle.fields.specs.Questions.{Question, first_no}
 use Rattle.fields.specs.Forms.{natural, integer, asked}
 use Rattle.fields.proofs.Numbers.{unsigned_none}
 use Rattle.listing.specs.Text.{comma, Without}
-use Rattle.listing.proofs.Answers.{all_yes}
+use Rattle.listing.specs.Asked.{all_yes}
 
 own : IsNumeralModel (λ ds. all_ascii_digits ds ≡ true) (value_after 0)
 own = numerals_by_fold _ tells_all_ascii_digits value_after (search rules)

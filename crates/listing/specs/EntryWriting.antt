@@ -15,8 +15,8 @@ use Rattle.listing.specs.Text.{comma, Without}
 use Rattle.listing.specs.Lines.{place_at, field_questions}
 use Rattle.listing.specs.Entries.{EntryForm, access_form, slack_form, weighted_form, by_value_form}
 use Rattle.listing.specs.Written.{ReadsBack}
-use Rattle.listing.proofs.Answers.{first_after, field_yes, questions_append}
-use Rattle.listing.proofs.NumberWriting.{natural_passes, integer_passes, natural_is, natural_plain, signed_is, signed_plain}
+use Rattle.listing.specs.Asked.{first_after, field_yes, questions_append}
+use Rattle.listing.specs.NumberWriting.{natural_passes, integer_passes, natural_is, natural_plain, signed_is, signed_plain}
 
 -- the fields before, one field, and the rest
 module _ (front : List (List ℕ)) (w : List ℕ) (ws : List (List ℕ)) where
