@@ -1,6 +1,6 @@
 -- Changes to a pair's record: a post onto a kept pair, and a pair that is new. Assumes nothing.
 use Rattle.std.proofs.Common.{◌≡◌, ℕ, zero, suc, ◌+◌, ◌-◌, ◌<◌, ◌≤◌, Bool, true, false, cond, ◌||◌, ltb, List, [], ◌∷◌, ◌++◌, map, length, take, set, Some, None, Option, unwrap_or, sym, refl, ap, ◌∙◌, subst, add-one, arith}
-use Rattle.std.specs.List.{AllByRecursion as All, slice_get}
+use Rattle.std.specs.List.{AllByRecursion, slice_get}
 use Rattle.std.proofs.ByRecursion.{All-push, All-weaker}
 use Rattle.std.proofs.lemmas.List.{length-set, length-take, map_push, take_more_set, length_push}
 use Rattle.std.proofs.lemmas.Bool.{cond-true, cond-false, ltb-true}
@@ -32,7 +32,7 @@ none_if t e = cond-false t 1 0 e
 pub length_take_most : {X : Type 0} (m : ℕ) (xs : List X) → length (take m xs) ≤ m
 length_take_most m xs = simp length-take (omega arith)
 
-all_getD_nth : {X : Type 0} (P : X → Type 0) (xs : List X) (i : ℕ) (x : X) → slice_get xs i ≡ Some x → All P xs → P x
+all_getD_nth : {X : Type 0} (P : X → Type 0) (xs : List X) (i : ℕ) (x : X) → slice_get xs i ≡ Some x → AllByRecursion P xs → P x
 all_getD_nth P [] i x there all = let z : ◌≡◌ {A = ℕ} 0 1 = cc in absurd (omega arith)
 all_getD_nth P (y ∷ ys) zero x there all = let e : y ≡ x = cc in subst P e all.0
 all_getD_nth P (y ∷ ys) (suc i) x there all = all_getD_nth P ys i x there all.1
@@ -48,12 +48,12 @@ new_pair k f = record { low = k.0; high = k.1; scores = f }
 
 -- in a list where a key stands once, all but the record with that key keep their property
 module _ {K : Type 0} (k : ℕ × ℕ) (P Q : Pair K → Type 0) (others : (p : Pair K) → same_key k (pair_key p) ≡ false → P p → Q p) where
-  none_touched : (ps : List (Pair K)) → how_many (same_key k) (map pair_key ps) ≡ 0 → All P ps → All Q ps
+  none_touched : (ps : List (Pair K)) → how_many (same_key k) (map pair_key ps) ≡ 0 → AllByRecursion P ps → AllByRecursion Q ps
   none_touched [] h all = tt
   none_touched (p ∷ ps) h all = go (same_key k (pair_key p)) refl h (none_touched ps)
     where
       go : (t : Bool) → same_key k (pair_key p) ≡ t → cond t 1 0 + how_many (same_key k) (map pair_key ps) ≡ 0
-          → (how_many (same_key k) (map pair_key ps) ≡ 0 → All P ps → All Q ps) → Q p × All Q ps
+          → (how_many (same_key k) (map pair_key ps) ≡ 0 → AllByRecursion P ps → AllByRecursion Q ps) → Q p × AllByRecursion Q ps
       go true e z rest = absurd (omega (arith, z))
       go false e z rest = (others p e all.0, rest (omega (arith, z)) all.1)
 
@@ -69,7 +69,7 @@ module _ {K : Type 0} (k : ℕ × ℕ) (P Q : Pair K → Type 0) (others : (p : 
   at_least_one (q ∷ qs) (suc i) p there same = omega (arith, at_least_one qs i p there same)
 
   one_touched : (ps : List (Pair K)) (i : ℕ) (p new : Pair K) → slice_get ps i ≡ Some p → same_key k (pair_key p) ≡ true → how_many (same_key k) (map pair_key ps) ≡ 1
-      → All P ps → Q new → All Q (set ps i new)
+      → AllByRecursion P ps → Q new → AllByRecursion Q (set ps i new)
   one_touched [] i p new there same once all q = tt
   one_touched (r ∷ rs) zero p new there same once all q =
       let e : same_key k (pair_key r) ≡ true = subst (λ x. same_key k (pair_key x) ≡ true) (is r p there) same in
@@ -81,7 +81,7 @@ module _ {K : Type 0} (k : ℕ × ℕ) (P Q : Pair K → Type 0) (others : (p : 
   one_touched (r ∷ rs) (suc i) p new there same once all q = go (same_key k (pair_key r)) refl once (at_least_one rs i p there same) (one_touched rs i p new there same)
     where
       go : (t : Bool) → same_key k (pair_key r) ≡ t → cond t 1 0 + how_many (same_key k) (map pair_key rs) ≡ 1 → 1 ≤ how_many (same_key k) (map pair_key rs)
-          → (how_many (same_key k) (map pair_key rs) ≡ 1 → All P rs → Q new → All Q (set rs i new)) → Q r × All Q (set rs i new)
+          → (how_many (same_key k) (map pair_key rs) ≡ 1 → AllByRecursion P rs → Q new → AllByRecursion Q (set rs i new)) → Q r × AllByRecursion Q (set rs i new)
       go true e z some rest = absurd (omega (arith, z, some))
       go false e z some rest = (others r e all.0, rest (omega (arith, z)) all.1 q)
 
@@ -162,7 +162,7 @@ module _ {E S K : Type 0} (M : Model E S) (laws : Laws M) (means : K → S) (J :
         shows = record {
           vars = λ v below. let r = before.vars v below in (r.0, r.1, vars_same v r.0 r.2);
           keys = ap (map pair_key) used_is ∙ keys_set (used h) i old new there refl ∙ before.keys ∙ sym same;
-          pairs = subst (All (PairShows M means n (more cs (PairPost a b es)))) (sym used_is)
+          pairs = subst (AllByRecursion (PairShows M means n (more cs (PairPost a b es)))) (sym used_is)
               (one_touched (key a b) (PairShows M means n cs) (PairShows M means n (more cs (PairPost a b es))) others (used h) i old new there old_same (once ∙ one_if _ kept) before.pairs (joined_on i old there is shown));
         };
         leads_back = ap (λ ps. record { vars = h.vars; pairs = set ps i old }) used_is ∙ ap (λ ps. record { vars = h.vars; pairs = ps }) (set_back (used h) i old new there);
@@ -185,7 +185,7 @@ module _ {E S K : Type 0} (M : Model E S) (laws : Laws M) (means : K → S) (J :
         shows = record {
           vars = λ v below. let r = before.vars v below in (r.0, r.1, vars_same v r.0 r.2);
           keys = ap (map pair_key) used_is ∙ map_push pair_key (used h) new ∙ ap (λ ks. ks ++ key a b ∷ []) before.keys ∙ sym longer;
-          pairs = subst (All (PairShows M means n (more cs (PairPost a b es)))) (sym used_is)
+          pairs = subst (AllByRecursion (PairShows M means n (more cs (PairPost a b es)))) (sym used_is)
               (All-push (PairShows M means n (more cs (PairPost a b es))) (used h) new
               (none_touched (key a b) (PairShows M means n cs) (PairShows M means n (more cs (PairPost a b es))) others (used h) (once ∙ none_if _ gone) before.pairs)
               (becomes gone));

@@ -1,6 +1,6 @@
 -- What a layout selects on a board that stands at a list is what it selects in the list. Assumes nothing.
 use Rattle.std.proofs.Common.{◌≡◌, ℕ, zero, suc, ◌+◌, ◌<◌, ◌≤◌, Bool, true, false, cond, ◌&&◌, eqb, List, [], ◌∷◌, ◌++◌, map, length, take, Some, None, Ok, Err, Option, sym, refl, ap, ◌∙◌, subst, add-zero, add-suc, suc-add, arith}
-use Rattle.std.specs.List.{AllByRecursion as All, slice_get}
+use Rattle.std.specs.List.{AllByRecursion, slice_get}
 use Rattle.std.proofs.lemmas.List.{append-nil, append_assoc, length-take-le}
 use Rattle.std.proofs.lemmas.Bool.{eqb-true}
 use Rattle.score.specs.Joins.{Joining, Within}
@@ -53,7 +53,7 @@ module _ {E S K : Type 0} (M : Model E S) (means : K → S) (n : ℕ) (cs : Stan
       first_is : (q r : Var K) → Some q ≡ Some r → r ≡ q
       first_is q r h = cc
 
-  pairs_shown : (ps : List (Pair K)) → All (PairShows M means n cs) ps
+  pairs_shown : (ps : List (Pair K)) → AllByRecursion (PairShows M means n cs) ps
       → map means (pairs_at layout ps) ≡ map (λ p. pair_score M cs p (values layout p.0) (values layout p.1)) (map pair_key ps)
   pairs_shown [] all = refl
   pairs_shown (p ∷ ps) all = λ i. all.0.scores (values layout p.low) (values layout p.high) i ∷ pairs_shown ps all.1 i

@@ -1,6 +1,6 @@
 -- When a board stands at a list of standing changes, and what each call promises. Assumes nothing.
 use Rattle.std.specs.Prelude.{◌≡◌, ℕ, ◌-◌, ◌<◌, ◌≤◌, Bool, true, false, List, map, length, take, is_ok, IfOk, Some, Result, slice_set}
-use Rattle.std.specs.List.{AllByRecursion as All, slice_get}
+use Rattle.std.specs.List.{AllByRecursion, slice_get}
 use Rattle.score.specs.Model.{Model}
 use Rattle.calls.specs.declared.changes.Change.{Change}
 use Rattle.calls.specs.declared.refusals.Refusal.{Refusal}
@@ -46,7 +46,7 @@ module _ {E S K : Type 0} (M : Model E S) (means : K → S) (n : ℕ) where
   pub record Shows (t : Tables K) (cs : Standing E) : Type 0 where
     pub vars : (v : ℕ) → v < n → (r : Var K) × (slice_get t.vars v ≡ Some r) × VarShows cs v r
     pub keys : map pair_key t.pairs ≡ kept_pairs cs
-    pub pairs : All (PairShows cs) t.pairs
+    pub pairs : AllByRecursion (PairShows cs) t.pairs
 
   -- the tables show the list, and each history record leads back to tables that show the list before its change, down to the first
   abbrev pub Traces : List (Undo K) → Tables K → Standing E → Type 0

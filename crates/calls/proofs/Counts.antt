@@ -16,7 +16,7 @@ use Rattle.calls.proofs.OverPosts.{over_posts_within, valid_in_range}
 
 -- the kind that counts entries
 abbrev pub counting : {E : Type 0} → Model E ℕ
-counting = record { neutral = 0; join = ◌+◌; at_most = nat_le; score = λ e. Some 1 }
+counting = record { neutral = 0; join = ◌+◌; at_most = leb; score = λ e. Some 1 }
 
 pub counting_laws : {E : Type 0} → Laws (counting {E = E})
 counting_laws = record {

@@ -2,7 +2,7 @@
 use Rattle.std.proofs.Common.{◌≡◌, ℕ, suc, ◌+◌, ◌<◌, ◌≤◌, Bool, true, false, cond, not, ◌&&◌, eqb, leb, List, [], ◌∷◌, ◌++◌, length, get_or, is_some, Some, None, Ok, Err, decimal, Result, sym, refl, ap, ◌∙◌, subst, append-nil, arith, length-append, le-leb, MatchResult}
 use borrow.Author.Tests.{eqb-false, not-true}
 use Rattle.std.specs.Option.{option_map}
-use Rattle.std.specs.List.{AllByRecursion as All}
+use Rattle.std.specs.List.{AllByRecursion}
 use Rattle.std.specs.Str.{all_ascii_digits}
 use Rattle.std.proofs.lemmas.Bool.{and_parts}
 use Rattle.fields.specs.declared.faults.LineFault.{LineFault}
@@ -68,7 +68,7 @@ reply_is M number line c all is (Ok x) h = let k = h.1 in cc
 reply_is M number line c all is (Err f) h = let z : ◌≡◌ {A = ℕ} 0 1 = cc in omega arith
 
 -- a line whose fields are a word and the fields that it asks for
-module _ {E : Type 0} (M : EntryForm E) (number : ℕ) (line : List ℕ) (short : length line ≤ line_limit) (call : CallWord) (ws : List (List ℕ)) (plain : All (Without comma) ws) (is_line : line ≡ parted_by comma (spelling (Call call) ∷ ws)) (count : length ws ≡ length (call_forms M call)) (passes : first_no (field_questions number 1 (call_forms M call) (spelling (Call call) ∷ ws)) ≡ None) where
+module _ {E : Type 0} (M : EntryForm E) (number : ℕ) (line : List ℕ) (short : length line ≤ line_limit) (call : CallWord) (ws : List (List ℕ)) (plain : AllByRecursion (Without comma) ws) (is_line : line ≡ parted_by comma (spelling (Call call) ∷ ws)) (count : length ws ≡ length (call_forms M call)) (passes : first_no (field_questions number 1 (call_forms M call) (spelling (Call call) ∷ ws)) ≡ None) where
   parts : fields line ≡ spelling (Call call) ∷ ws
   parts = ap fields is_line ∙ pieces_parted comma (spelling (Call call)) ws (word_plain (Call call), plain)
 

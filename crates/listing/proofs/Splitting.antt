@@ -1,7 +1,7 @@
 -- The pieces of a text, put together again, are the text, and there is no other way to part it. Assumes nothing.
 use Rattle.std.proofs.Common.{◌≡◌, ℕ, suc, ◌+◌, ◌<◌, ◌≤◌, Bool, true, false, cond, eqb, ◌⊎◌, List, [], ◌∷◌, ◌++◌, length, get_or, sym, refl, ap, ◌∙◌, inl, inr, ⊎_elim, append_assoc, arith, eq-eqb, ne_eqb, eqb-true}
 use borrow.Author.Tests.{eqb-false}
-use Rattle.std.specs.List.{AllByRecursion as All}
+use Rattle.std.specs.List.{AllByRecursion}
 use Rattle.std.proofs.lemmas.Bool.{cond-true, cond-false}
 use Rattle.fields.specs.Text.{upto, onto, pieces}
 use Rattle.listing.specs.Text.{parted_by, ended, line_feed, lines, Without, closed, TextLaws}
@@ -16,7 +16,7 @@ uncut : (cut : ℕ) (p : List ℕ) → Without cut p → pieces cut p ≡ p ∷ 
 uncut cut [] h = refl
 uncut cut (b ∷ p) h = cond-false (eqb b cut) ([] ∷ pieces cut p) (onto b (pieces cut p)) (ne_eqb b cut h.0) ∙ ap (onto b) (uncut cut p h.1)
 
-pub pieces_parted : (cut : ℕ) (p : List ℕ) (ps : List (List ℕ)) → All (Without cut) (p ∷ ps) → pieces cut (parted_by cut (p ∷ ps)) ≡ p ∷ ps
+pub pieces_parted : (cut : ℕ) (p : List ℕ) (ps : List (List ℕ)) → AllByRecursion (Without cut) (p ∷ ps) → pieces cut (parted_by cut (p ∷ ps)) ≡ p ∷ ps
 pieces_parted cut p [] h = uncut cut p h.0
 pieces_parted cut p (q ∷ ps) h = cut_after cut p (parted_by cut (q ∷ ps)) h.0 ∙ ap (λ l. p ∷ l) (pieces_parted cut q ps h.1)
 
@@ -34,12 +34,12 @@ pieces_joined cut (b ∷ bs) =
     ap (λ ps. parted_by cut (cond (eqb b cut) ([] ∷ ps) (onto b ps))) (pieces_cut cut bs)
     ∙ joined_by (eqb b cut) cut b bs (upto cut bs) (later cut bs) refl (ap (parted_by cut) (sym (pieces_cut cut bs)) ∙ pieces_joined cut bs)
 
-apart_by : (t : Bool) (cut b : ℕ) (ps : List (List ℕ)) → eqb b cut ≡ t → All (Without cut) ps → All (Without cut) (cond t ([] ∷ ps) (onto b ps))
+apart_by : (t : Bool) (cut b : ℕ) (ps : List (List ℕ)) → eqb b cut ≡ t → AllByRecursion (Without cut) ps → AllByRecursion (Without cut) (cond t ([] ∷ ps) (onto b ps))
 apart_by true cut b ps e h = (tt, h)
 apart_by false cut b [] e h = ((eqb-false b cut e, tt), tt)
 apart_by false cut b (p ∷ ps) e h = ((eqb-false b cut e, h.0), h.1)
 
-pieces_apart : (cut : ℕ) (bs : List ℕ) → All (Without cut) (pieces cut bs)
+pieces_apart : (cut : ℕ) (bs : List ℕ) → AllByRecursion (Without cut) (pieces cut bs)
 pieces_apart cut [] = (tt, tt)
 pieces_apart cut (b ∷ bs) = apart_by (eqb b cut) cut b (pieces cut bs) refl (pieces_apart cut bs)
 
@@ -64,7 +64,7 @@ closes text =
 ended_more : (cut : ℕ) (l bs : List ℕ) → ended (l ∷ pieces cut bs) ≡ l ∷ ended (pieces cut bs)
 ended_more cut l bs = ap (λ ps. ended (l ∷ ps)) (pieces_cut cut bs) ∙ ap (λ ps. l ∷ ended ps) (sym (pieces_cut cut bs))
 
-lines_back : (ls : List (List ℕ)) → All (Without line_feed) ls → lines (closed ls) ≡ ls
+lines_back : (ls : List (List ℕ)) → AllByRecursion (Without line_feed) ls → lines (closed ls) ≡ ls
 lines_back [] h = refl
 lines_back (l ∷ ls) h = ap ended (cut_after line_feed l (closed ls) h.0) ∙ ended_more line_feed l (closed ls) ∙ ap (λ r. l ∷ r) (lines_back ls h.1)
 

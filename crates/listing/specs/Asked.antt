@@ -1,6 +1,6 @@
 -- Questions that are put one after the other. Assumes nothing.
 use Rattle.std.proofs.Common.{◌≡◌, ℕ, suc, ◌+◌, Bool, true, false, cond, List, [], ◌∷◌, ◌++◌, length, get_or, Some, None, Ok, Err, Option, Result, sym, refl, ap, ◌∙◌, subst, arith}
-use Rattle.std.specs.List.{AllByRecursion as All}
+use Rattle.std.specs.List.{AllByRecursion}
 use Rattle.fields.specs.declared.faults.Place.{Place}
 use Rattle.fields.specs.declared.faults.FieldFault.{FieldFault}
 use Rattle.fields.specs.Questions.{Question, first_no, replied, answered}
@@ -26,7 +26,7 @@ module _ {F : Type 0} where
   first_after [] rs e = refl
   first_after (q ∷ qs) rs e = yes_by q.0 q.1 (first_no qs) (first_no (qs ++ rs)) (first_no rs) (first_after qs rs) e
 
-  pub all_yes : (qs : List (Question F)) → All (λ q. q.0 ≡ true) qs → first_no qs ≡ None
+  pub all_yes : (qs : List (Question F)) → AllByRecursion (λ q. q.0 ≡ true) qs → first_no qs ≡ None
   all_yes [] h = refl
   all_yes (q ∷ qs) h = ap (λ t. cond t (first_no qs) (Some q.1)) h.0 ∙ all_yes qs h.1
 

@@ -1,6 +1,6 @@
 -- The lines and fields of a listing, and the pieces of a text put together again. Assumes nothing.
 use Rattle.std.specs.Prelude.{◌≡◌, ℕ, ◌⊎◌, List, [], ◌∷◌, ◌++◌, ◌≢◌}
-use Rattle.std.specs.List.{AllByRecursion as All}
+use Rattle.std.specs.List.{AllByRecursion}
 use Rattle.fields.specs.Text.{pieces}
 
 -- the pieces put together again
@@ -32,7 +32,7 @@ fields line = pieces comma line
 
 -- the byte is not in the text
 abbrev pub Without : ℕ → List ℕ → Type 0
-Without cut bs = All (λ b. b ≢ cut) bs
+Without cut bs = AllByRecursion (λ b. b ≢ cut) bs
 
 -- each line with its line feed
 abbrev pub closed : List (List ℕ) → List ℕ
@@ -42,10 +42,10 @@ closed (l ∷ ls) = l ++ line_feed ∷ closed ls
 pub record TextLaws : Type 0 where
   -- the pieces put together again are the text, and none has the byte that parts them
   pub joined : (cut : ℕ) (bs : List ℕ) → parted_by cut (pieces cut bs) ≡ bs
-  pub apart : (cut : ℕ) (bs : List ℕ) → All (Without cut) (pieces cut bs)
+  pub apart : (cut : ℕ) (bs : List ℕ) → AllByRecursion (Without cut) (pieces cut bs)
   -- no other pieces give that text
-  pub only : (cut : ℕ) (p : List ℕ) (ps : List (List ℕ)) → All (Without cut) (p ∷ ps) → pieces cut (parted_by cut (p ∷ ps)) ≡ p ∷ ps
+  pub only : (cut : ℕ) (p : List ℕ) (ps : List (List ℕ)) → AllByRecursion (Without cut) (p ∷ ps) → pieces cut (parted_by cut (p ∷ ps)) ≡ p ∷ ps
   -- the lines with their line feeds are the text, or the text and the line feed that its last line lacks
   pub closes : (text : List ℕ) → (closed (lines text) ≡ text) ⊎ (closed (lines text) ≡ text ++ line_feed ∷ [])
   -- lines that are written out are the lines of that text
-  pub lines_back : (ls : List (List ℕ)) → All (Without line_feed) ls → lines (closed ls) ≡ ls
+  pub lines_back : (ls : List (List ℕ)) → AllByRecursion (Without line_feed) ls → lines (closed ls) ≡ ls

@@ -1,6 +1,6 @@
 -- What is written into fields is read back from them. Assumes nothing.
 use Rattle.std.specs.Prelude.{◌≡◌, ℕ, true, List, [], ◌∷◌, ◌++◌, length, None}
-use Rattle.std.specs.List.{AllByRecursion as All}
+use Rattle.std.specs.List.{AllByRecursion}
 use Rattle.fields.specs.Questions.{first_no}
 use Rattle.listing.specs.Text.{comma, Without}
 use Rattle.listing.specs.Lines.{field_questions}
@@ -13,4 +13,4 @@ pub record ReadsBack {E : Type 0} (M : EntryForm E) : Type 0 where
   -- they spell the entry
   pub same : (e : E) (front more : List (List ℕ)) → M.fits e ≡ true → M.spelled (length front) (front ++ (M.written e ++ more)) ≡ e
   -- no field has a comma
-  pub plain : (e : E) → M.fits e ≡ true → All (Without comma) (M.written e)
+  pub plain : (e : E) → M.fits e ≡ true → AllByRecursion (Without comma) (M.written e)

@@ -1,6 +1,6 @@
 -- Layouts of bytes, and the one that notes give. Assumes nothing.
 use Rattle.std.specs.Prelude.{◌≡◌, ℕ, ◌<◌, Bool, false, List, [], ◌∷◌, map, reverse, length, Some, None, slice_set}
-use Rattle.std.specs.List.{AllByRecursion as All, slice_get}
+use Rattle.std.specs.List.{AllByRecursion, slice_get}
 use Rattle.steps.specs.Steps.{taken, read}
 use Rattle.notes.specs.declared.removal.Removal.{Removal}
 use Rattle.notes.specs.Removals.{bank, bank_number, way_of, note_of}
@@ -20,4 +20,4 @@ read_back bs (n ∷ ns) = settled (read_back bs ns) n
 
 -- bs' is the layout that the notes, oldest first, give on bs
 abbrev pub ReadFrom : List Removal → List ℕ → List ℕ → Type 0
-ReadFrom ns bs bs' = All (λ n. n.variable < length bs) ns → bank_at bs' ≡ read (reverse (map note_of ns)) (bank_at bs)
+ReadFrom ns bs bs' = AllByRecursion (λ n. n.variable < length bs) ns → bank_at bs' ≡ read (reverse (map note_of ns)) (bank_at bs)

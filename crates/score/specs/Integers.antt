@@ -3,7 +3,7 @@ use Rattle.std.specs.Prelude.{◌≡◌, ℕ, zero, suc, ◌+◌, ◌*◌, ◌^�
 use Rattle.std.proofs.Common.{sym, ap, subst, ◌∙◌, arith, add-mul, mul-le-mul_right}
 use Rattle.std.proofs.Math.IntN.{+ℤ_assoc, +ℤ_comm, +ℤ_idl}
 use Rattle.std.specs.Int.{saturate_to_bits}
-use Rattle.std.specs.List.{AllByRecursion as All}
+use Rattle.std.specs.List.{AllByRecursion}
 use Rattle.std.proofs.ByRecursion.{All-weaker}
 use Rattle.std.proofs.lemmas.Int.{ints}
 use Rattle.score.specs.Adding.{adding}
@@ -37,7 +37,7 @@ module _ {E : Type 0} (score : E → Option ℤ) where
 
   -- where each entry's score is at most `limit` in size
   module _ (limit : ℕ) (small : (e : E) (s : ℤ) → score e ≡ Some s → unsigned_abs s ≤ limit) where
-    joined_size : (ss : List ℤ) → All (Entered (adding score)) ss → unsigned_abs (joined (adding score) ss) ≤ length ss * limit
+    joined_size : (ss : List ℤ) → AllByRecursion (Entered (adding score)) ss → unsigned_abs (joined (adding score) ss) ≤ length ss * limit
     joined_size [] h = omega arith
     joined_size (s ∷ ss) h =
         omega (arith, natAbs_sum s (joined (adding score) ss), joined_size ss h.1, small h.0.entry s h.0.scored, add-mul (length ss) 1 limit)

@@ -1,6 +1,6 @@
 -- What a score kind is: its scores, the laws they keep, and how many entries a score is of. Assumes nothing.
 use Rattle.std.specs.Prelude.{◌≡◌, ℕ, ◌+◌, ◌≤◌, Bool, true, false, cond, ◌⊎◌, List, [], ◌∷◌, length, Some, Option}
-use Rattle.std.specs.List.{AllByRecursion as All}
+use Rattle.std.specs.List.{AllByRecursion}
 
 -- E: the entries that can be posted; S: the scores.
 -- `score` gives each entry that is taken its score; an entry that is not taken has none.
@@ -35,7 +35,7 @@ pub record Entered {E S : Type 0} (M : Model E S) (s : S) : Type 0 where
 pub record Of {E S : Type 0} (M : Model E S) (m : ℕ) (s : S) : Type 0 where
   pub scores : List S
   pub few : length scores ≤ m
-  pub each : All (Entered M) scores
+  pub each : AllByRecursion (Entered M) scores
   pub joins : joined M scores ≡ s
 
 -- how many entries every kind joins exactly

@@ -2,7 +2,7 @@
 use Rattle.std.proofs.Common.{◌≡◌, ℕ, Bool, true, false, cond, ◌⊎◌, List, [], ◌∷◌, length, Some, None, Option, sym, refl, ap, ◌∙◌, ⊎_elim, arith}
 use mathlib.Core.Path.{fun_ext}
 use Rattle.std.specs.Option.{option_map}
-use Rattle.std.specs.List.{AllByRecursion as All, slice_get}
+use Rattle.std.specs.List.{AllByRecursion, slice_get}
 use Rattle.std.proofs.lemmas.Bool.{cases_eq}
 use Rattle.score.specs.Model.{Model, Laws}
 use Rattle.steps.specs.Change.{onto_scores}
@@ -43,7 +43,7 @@ module _ {K : Type 0} (J : K → K → K) (c : Bool) where
   hand_all_length [] vs = refl
   hand_all_length (l ∷ ls) vs = hand_all_length ls (hand J c vs (Some l)) ∙ join_at_length J vs l.partner (at_four l.scores c false) (at_four l.scores c true)
 
-  pub hand_all_placed : (ls : List (Link K)) (vs : List (Var K)) (ps : List (Pair K)) → All (Placed vs) ps → All (Placed (hand_all vs ls)) ps
+  pub hand_all_placed : (ls : List (Link K)) (vs : List (Var K)) (ps : List (Pair K)) → AllByRecursion (Placed vs) ps → AllByRecursion (Placed (hand_all vs ls)) ps
   hand_all_placed [] vs ps h = h
   hand_all_placed (l ∷ ls) vs ps h = hand_all_placed ls (hand J c vs (Some l)) ps (join_at_placed J vs l.partner (at_four l.scores c false) (at_four l.scores c true) ps h)
 

@@ -1,7 +1,7 @@
 -- A variable leaves with its pairs: the records then say the sheet without it. Assumes nothing.
 use Rattle.std.proofs.Common.{◌≡◌, ℕ, suc, ◌<◌, ◌≤◌, true, false, cond, not, ◌||◌, eqb, ◌⊎◌, List, [], ◌∷◌, length, set, Some, None, sym, refl, ap, ◌∙◌, subst, ⊎_elim, arith}
 use Rattle.std.specs.Option.{option_map}
-use Rattle.std.specs.List.{AllByRecursion as All, slice_get}
+use Rattle.std.specs.List.{AllByRecursion, slice_get}
 use Rattle.std.proofs.lemmas.List.{length-set}
 use Rattle.std.proofs.lemmas.Bool.{eq-eqb, ne_eqb, eqb-true, eqb-false, cases_eq, cases_Bool, cond-true, cond-false, or_cases, or_parts, or_left, or_right, or_from}
 use Rattle.steps.specs.Change.{without}
@@ -129,16 +129,16 @@ module _ {K : Type 0} (vs : List (Var K)) (y : ℕ) (r : Var K) (there : slice_g
   pub gone_present : (v : ℕ) → (v ≡ y → ⊥) → Present vs v → Present (set vs y (gone r)) v
   gone_present v d h = (h.0, nth_set_other vs y v (gone r) d ∙ h.1, h.2)
 
-  gone_placed : (ps : List (Pair K)) → All (Placed vs) ps → All (Placed (set vs y (gone r))) (kept y ps)
+  gone_placed : (ps : List (Pair K)) → AllByRecursion (Placed vs) ps → AllByRecursion (Placed (set vs y (gone r))) (kept y ps)
   gone_placed [] h = tt
   gone_placed (p ∷ ps) h =
       ⊎_elim
-      (λ (e : touches y p ≡ true). subst (All (Placed (set vs y (gone r)))) (sym (kept_no y p ps e)) (gone_placed ps h.1))
+      (λ (e : touches y p ≡ true). subst (AllByRecursion (Placed (set vs y (gone r)))) (sym (kept_no y p ps e)) (gone_placed ps h.1))
       (λ (e : touches y p ≡ false).
       let q = or_parts (eqb p.low y) (eqb p.high y) e in
       let d = eqb-false p.low y q.0 in
       let f = eqb-false p.high y q.1 in
-      subst (All (Placed (set vs y (gone r)))) (sym (kept_yes y p ps e)) (
+      subst (AllByRecursion (Placed (set vs y (gone r)))) (sym (kept_yes y p ps e)) (
         record { lower_first = h.0.lower_first; low_present = gone_present p.low d h.0.low_present; high_present = gone_present p.high f h.0.high_present },
         gone_placed ps h.1,
       ))

@@ -2,7 +2,7 @@
 use Rattle.std.proofs.Common.{◌≡◌, ℕ, ◌<◌, Bool, true, false, cond, ◌&&◌, eqb, ◌⊎◌, List, [], ◌∷◌, length, set, Some, None, Option, sym, refl, ap, ◌∙◌, subst, ⊎_elim, arith}
 use mathlib.Core.Path.{fun_ext}
 use Rattle.std.specs.Option.{option_map}
-use Rattle.std.specs.List.{AllByRecursion as All, slice_get}
+use Rattle.std.specs.List.{AllByRecursion, slice_get}
 use Rattle.std.proofs.lemmas.List.{length-set}
 use Rattle.std.proofs.lemmas.Bool.{eq-eqb, ne_eqb, eqb-true, cases_eq, cases_Bool, cond-true, cond-false, and_parts, and_from}
 use Rattle.score.specs.Model.{Model}
@@ -56,7 +56,7 @@ module _ {K : Type 0} (J : K → K → K) (vs : List (Var K)) (x : ℕ) (z o : K
       (λ (e : v ≡ x → ⊥). (h.0, join_at_other v e ∙ h.1, h.2))
       (cases_eq v x)
 
-  pub join_at_placed : (ps : List (Pair K)) → All (Placed vs) ps → All (Placed (join_at J vs x z o)) ps
+  pub join_at_placed : (ps : List (Pair K)) → AllByRecursion (Placed vs) ps → AllByRecursion (Placed (join_at J vs x z o)) ps
   join_at_placed [] h = tt
   join_at_placed (p ∷ ps) h = (
     record { lower_first = h.0.lower_first; low_present = join_at_present p.low h.0.low_present; high_present = join_at_present p.high h.0.high_present },
@@ -141,12 +141,12 @@ module _ {K : Type 0} (J : K → K → K) (x z : ℕ) (f : Four K) where
       (λ (e : is_pair x z p ≡ false). ap (found a b) (post_on p ps e) ∙ ap (cond (is_pair a b p) (Some p)) (found_unposted ps a b d))
       (cases_Bool (is_pair x z p))
 
-  pub post_placed : (vs : List (Var K)) (ps : List (Pair K)) → x < z → Present vs x → Present vs z → All (Placed vs) ps → All (Placed vs) (post J x z f ps)
+  pub post_placed : (vs : List (Var K)) (ps : List (Pair K)) → x < z → Present vs x → Present vs z → AllByRecursion (Placed vs) ps → AllByRecursion (Placed vs) (post J x z f ps)
   post_placed vs [] lt px pz h = (record { lower_first = lt; low_present = px; high_present = pz }, tt)
   post_placed vs (p ∷ ps) lt px pz h =
       ⊎_elim
-      (λ (e : is_pair x z p ≡ true). subst (All (Placed vs)) (sym (post_onto p ps e)) (record { lower_first = h.0.lower_first; low_present = h.0.low_present; high_present = h.0.high_present }, h.1))
-      (λ (e : is_pair x z p ≡ false). subst (All (Placed vs)) (sym (post_on p ps e)) (h.0, post_placed vs ps lt px pz h.1))
+      (λ (e : is_pair x z p ≡ true). subst (AllByRecursion (Placed vs)) (sym (post_onto p ps e)) (record { lower_first = h.0.lower_first; low_present = h.0.low_present; high_present = h.0.high_present }, h.1))
+      (λ (e : is_pair x z p ≡ false). subst (AllByRecursion (Placed vs)) (sym (post_on p ps e)) (h.0, post_placed vs ps lt px pz h.1))
       (cases_Bool (is_pair x z p))
 
   pub post_apart : (ps : List (Pair K)) → Apart ps → Apart (post J x z f ps)

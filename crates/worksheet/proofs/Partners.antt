@@ -2,7 +2,7 @@
 use Rattle.std.proofs.Common.{◌≡◌, ℕ, suc, ◌<◌, Bool, true, false, eqb, ◌⊎◌, List, [], ◌∷◌, length, is_some, Some, None, Option, sym, refl, ap, ◌∙◌, subst, ⊎_elim, arith}
 use mathlib.Core.Path.{fun_ext}
 use Rattle.std.specs.Option.{option_map}
-use Rattle.std.specs.List.{AllByRecursion as All}
+use Rattle.std.specs.List.{AllByRecursion}
 use Rattle.std.proofs.lemmas.Bool.{eq-eqb, ne_eqb, cases_eq, cases_order, cond-true, cond-false, and_from, and_left, and_right}
 use Rattle.steps.specs.Sheet.{pair, partners, turned, count, degree}
 use Rattle.steps.proofs.Sheets.{some_mapped, pair_lower, pair_higher, pair_self}
@@ -70,7 +70,7 @@ module _ {K : Type 0} where
 
 module _ {K S : Type 0} (means : K → S) where
   -- with a higher partner
-  links_higher : (ps : List (Pair K)) → All LowFirst ps → (y v : ℕ) → y < v
+  links_higher : (ps : List (Pair K)) → AllByRecursion LowFirst ps → (y v : ℕ) → y < v
       → option_map (pair_scores means) (found y v ps) ≡ option_map (link_scores means) (first_link v (links y ps))
   links_higher [] h y v lt = refl
   links_higher (p ∷ ps) h y v lt =
@@ -90,7 +90,7 @@ module _ {K S : Type 0} (means : K → S) where
       (λ isnt _. ap (option_map (pair_scores means)) (found_on_low y v p ps (λ e. isnt (sym e))) ∙ rest)
 
   -- with a lower partner
-  links_lower : (ps : List (Pair K)) → All LowFirst ps → (y v : ℕ) → v < y
+  links_lower : (ps : List (Pair K)) → AllByRecursion LowFirst ps → (y v : ℕ) → v < y
       → option_map turned (option_map (pair_scores means) (found v y ps)) ≡ option_map (link_scores means) (first_link v (links y ps))
   links_lower [] h y v lt = refl
   links_lower (p ∷ ps) h y v lt =
@@ -117,7 +117,7 @@ module _ {K S : Type 0} (means : K → S) where
       (λ isnt isnt_high. over_found _ (found_on_high v y p ps (λ e. isnt_high (sym e))) ∙ rest)
 
   -- nobody is its own partner
-  links_self : (ps : List (Pair K)) → All LowFirst ps → (y : ℕ) → first_link y (links y ps) ≡ None
+  links_self : (ps : List (Pair K)) → AllByRecursion LowFirst ps → (y : ℕ) → first_link y (links y ps) ≡ None
   links_self [] h y = refl
   links_self (p ∷ ps) h y =
       let rest : first_link y (links y ps) ≡ None = links_self ps h.1 y in
@@ -128,7 +128,7 @@ module _ {K S : Type 0} (means : K → S) where
       (λ _ _. rest)
 
   -- the pair of y and v is what y's links say of v
-  pub pair_links : (base : K) (vs : List (Var K)) (ps : List (Pair K)) → All LowFirst ps → (y v : ℕ)
+  pub pair_links : (base : K) (vs : List (Var K)) (ps : List (Pair K)) → AllByRecursion LowFirst ps → (y v : ℕ)
       → pair (contents means base vs ps) y v ≡ option_map (link_scores means) (first_link v (links y ps))
   pair_links base vs ps h y v =
       ⊎_elim
@@ -147,12 +147,12 @@ abbrev pub Distinct : {K : Type 0} → ℕ → List (Link K) → Type 0
 Distinct n [] = Unit {0}
 Distinct n (l ∷ ls) = (l.partner < n) × (first_link l.partner ls ≡ None) × Distinct n ls
 
-pub low_first : {K : Type 0} (vs : List (Var K)) (ps : List (Pair K)) → All (Placed vs) ps → All LowFirst ps
+pub low_first : {K : Type 0} (vs : List (Var K)) (ps : List (Pair K)) → AllByRecursion (Placed vs) ps → AllByRecursion LowFirst ps
 low_first vs [] h = tt
 low_first vs (p ∷ ps) h = (h.0.lower_first, low_first vs ps h.1)
 
 module _ {K : Type 0} (vs : List (Var K)) where
-  pub distinct : (ps : List (Pair K)) → All (Placed vs) ps → Apart ps → (y : ℕ) → Distinct (length vs) (links y ps)
+  pub distinct : (ps : List (Pair K)) → AllByRecursion (Placed vs) ps → Apart ps → (y : ℕ) → Distinct (length vs) (links y ps)
   distinct [] h a y = tt
   distinct (p ∷ ps) h a y =
       let rest : Distinct (length vs) (links y ps) = distinct ps h.1 a.1 y in
@@ -172,7 +172,7 @@ module _ {K : Type 0} (vs : List (Var K)) where
       (λ _ _. rest)
 
 -- a partner's record is there
-pub link_present : {K : Type 0} (vs : List (Var K)) (y : ℕ) (ps : List (Pair K)) → All (Placed vs) ps → (x : ℕ) (l : Link K) → first_link x (links y ps) ≡ Some l → Present vs x
+pub link_present : {K : Type 0} (vs : List (Var K)) (y : ℕ) (ps : List (Pair K)) → AllByRecursion (Placed vs) ps → (x : ℕ) (l : Link K) → first_link x (links y ps) ≡ Some l → Present vs x
 link_present vs y [] h x l e = let z : ◌≡◌ {A = ℕ} 0 1 = cc in absurd (omega arith)
 link_present {K} vs y (p ∷ ps) h x l e =
     let rest : first_link x (links y ps) ≡ Some l → Present vs x = link_present vs y ps h.1 x l in
@@ -202,7 +202,7 @@ count_links n (l ∷ ls) d =
         (λ (e : v ≡ l.partner → ⊥). cond-false (eqb v l.partner) false _ (ne_eqb v l.partner e) ∙ ap is_some (first_on v l ls e))
         (cases_eq v l.partner)
 
-module _ {K S : Type 0} (means : K → S) (base : K) (vs : List (Var K)) (ps : List (Pair K)) (placed : All (Placed vs) ps) where
+module _ {K S : Type 0} (means : K → S) (base : K) (vs : List (Var K)) (ps : List (Pair K)) (placed : AllByRecursion (Placed vs) ps) where
   pub partners_links : (y v : ℕ) → partners (contents means base vs ps) y v ≡ is_some (first_link v (links y ps))
   partners_links y v = ap is_some (pair_links means base vs ps (low_first vs ps placed) y v) ∙ some_mapped (link_scores means) (first_link v (links y ps))
 

@@ -1,7 +1,7 @@
 -- What the bounds compute on the records is what their rules say of the contents. Assumes nothing.
 use Rattle.std.proofs.Common.{◌≡◌, ℕ, zero, suc, ◌+◌, ◌-◌, ◌<◌, ◌≤◌, Bool, true, false, cond, eqb, ◌⊎◌, List, [], ◌∷◌, ◌++◌, map, length, Some, None, Option, sym, refl, ap, ◌∙◌, subst, ap₂, ⊎_elim, arith}
 use Rattle.std.specs.Option.{option_map}
-use Rattle.std.specs.List.{AllByRecursion as All, slice_get}
+use Rattle.std.specs.List.{AllByRecursion, slice_get}
 use Rattle.std.proofs.lemmas.List.{map-append}
 use Rattle.std.proofs.ByRecursion.{All-weaker}
 use Rattle.std.proofs.lemmas.Option.{slice_get_past}
@@ -140,7 +140,7 @@ map_row f g v (p ∷ ps) = go (eqb v p.low) ∙ ap (λ xs. cond (eqb v p.low) (f
     go true = refl
     go false = refl
 
-placed_found : {K : Type 0} (vs : List (Var K)) (ps : List (Pair K)) → All (Placed vs) ps → (a c : ℕ) (p : Pair K) → found a c ps ≡ Some p → Present vs a
+placed_found : {K : Type 0} (vs : List (Var K)) (ps : List (Pair K)) → AllByRecursion (Placed vs) ps → (a c : ℕ) (p : Pair K) → found a c ps ≡ Some p → Present vs a
 placed_found vs [] h a c p e = let z : ◌≡◌ {A = ℕ} 0 1 = cc in absurd (omega arith)
 placed_found vs (q ∷ qs) h a c p e =
     ⊎_elim

@@ -1,6 +1,6 @@
 -- Scores of records joined one after the other: what they come to, and how many entries they are of. Assumes nothing.
 use Rattle.std.proofs.Common.{◌≡◌, ℕ, zero, suc, ◌+◌, ◌-◌, ◌≤◌, Bool, true, false, cond, ◌&&◌, eqb, ◌⊎◌, List, [], ◌∷◌, ◌++◌, map, length, Some, None, Option, sym, refl, ap, ◌∙◌, subst, ap₂, ⊎_elim, arith}
-use Rattle.std.specs.List.{AllByRecursion as All, slice_get}
+use Rattle.std.specs.List.{AllByRecursion, slice_get}
 use Rattle.std.proofs.lemmas.Bool.{cases_Bool, cond-true, cond-false, and_parts, eqb-true}
 use Rattle.score.specs.Joins.{Within, Joining}
 use Rattle.score.specs.Model.{Model, Laws, Of, Together, joined, exact_entries}
@@ -119,11 +119,11 @@ module _ {K : Type 0} where
       (cases_Bool (is_pair a b q))
 
   -- each record is the one that is found
-  pub all_found : (ps : List (Pair K)) → Apart ps → All (λ p. found p.low p.high ps ≡ Some p) ps
+  pub all_found : (ps : List (Pair K)) → Apart ps → AllByRecursion (λ p. found p.low p.high ps ≡ Some p) ps
   all_found [] a = tt
   all_found (p ∷ ps) a = (found_here p.low p.high p ps refl refl, on ps (all_found ps a.1))
     where
-      on : (qs : List (Pair K)) → All (λ q. found q.low q.high ps ≡ Some q) qs → All (λ q. found q.low q.high (p ∷ ps) ≡ Some q) qs
+      on : (qs : List (Pair K)) → AllByRecursion (λ q. found q.low q.high ps ≡ Some q) qs → AllByRecursion (λ q. found q.low q.high (p ∷ ps) ≡ Some q) qs
       on [] h = tt
       on (q ∷ qs) h = (
         ⊎_elim
@@ -137,7 +137,7 @@ module _ {K : Type 0} where
       )
 
 module _ {K E S : Type 0} (M : Model E S) (laws : Laws M) (g : Pair K → S) where
-  pub pairs_joined : (vs : List (Var K)) (ps : List (Pair K)) → All (Placed vs) ps → Apart ps
+  pub pairs_joined : (vs : List (Var K)) (ps : List (Pair K)) → AllByRecursion (Placed vs) ps → Apart ps
       → joined M (map g ps) ≡ over M (length vs) (λ a. over M (length vs) (λ b. of_pair M.neutral g (found a b ps)))
   pairs_joined vs [] h a = sym (over_two_neutral laws (length vs))
   pairs_joined vs (p ∷ ps) h a =
@@ -166,7 +166,7 @@ module _ {K E S : Type 0} (M : Model E S) (laws : Laws M) (g : Pair K → S) whe
           ∙ sym (ap (λ y. M.join y (of_pair M.neutral g (found x z ps))) (cond-false (is_pair x z p) (g p) M.neutral t) ∙ laws.unit _))
           (cases_Bool (is_pair x z p))
 
-  pub pairs_of_counts : (k : Pair K → ℕ) (ps : List (Pair K)) → All (λ p. Of M (k p) (g p)) ps → Ofs M (map k ps) (map g ps)
+  pub pairs_of_counts : (k : Pair K → ℕ) (ps : List (Pair K)) → AllByRecursion (λ p. Of M (k p) (g p)) ps → Ofs M (map k ps) (map g ps)
   pairs_of_counts k [] h = tt
   pairs_of_counts k (p ∷ ps) h = (h.0, pairs_of_counts k ps h.1)
 
@@ -178,7 +178,7 @@ row g v [] = []
 row g v (p ∷ ps) = cond (eqb v p.low) (g p ∷ row g v ps) (row g v ps)
 
 module _ {K E S : Type 0} (M : Model E S) (laws : Laws M) (g : Pair K → S) where
-  pub row_joined : (vs : List (Var K)) (v : ℕ) (ps : List (Pair K)) → All (Placed vs) ps → Apart ps
+  pub row_joined : (vs : List (Var K)) (v : ℕ) (ps : List (Pair K)) → AllByRecursion (Placed vs) ps → Apart ps
       → joined M (row g v ps) ≡ over M (length vs) (λ c. of_pair M.neutral g (found v c ps))
   row_joined vs v [] h a = sym (over_neutral laws (length vs))
   row_joined vs v (p ∷ ps) h a =
@@ -199,7 +199,7 @@ module _ {K E S : Type 0} (M : Model E S) (laws : Laws M) (g : Pair K → S) whe
           part c false f = sym (laws.unit _)
       go false e rest = rest ∙ over_same laws (length vs) _ _ (λ c. sym (ap (λ t. of_pair M.neutral g (cond (t && eqb c p.high) (Some p) (found v c ps))) e))
 
-  pub row_of_counts : (k : Pair K → ℕ) (v : ℕ) (ps : List (Pair K)) → All (λ p. Of M (k p) (g p)) ps → Ofs M (row k v ps) (row g v ps)
+  pub row_of_counts : (k : Pair K → ℕ) (v : ℕ) (ps : List (Pair K)) → AllByRecursion (λ p. Of M (k p) (g p)) ps → Ofs M (row k v ps) (row g v ps)
   row_of_counts k v [] h = tt
   row_of_counts k v (p ∷ ps) h = go (eqb v p.low) (row_of_counts k v ps h.1)
     where

@@ -1,7 +1,7 @@
 -- The contents of records in order are sound. Assumes nothing.
 use Rattle.std.proofs.Common.{◌≡◌, ℕ, ◌<◌, true, false, cond, eqb, ◌⊎◌, List, [], ◌∷◌, length, is_some, Some, None, Option, sym, refl, ap, ◌∙◌, subst, ⊎_elim}
 use Rattle.std.specs.Option.{option_map}
-use Rattle.std.specs.List.{AllByRecursion as All, slice_get}
+use Rattle.std.specs.List.{AllByRecursion, slice_get}
 use Rattle.std.proofs.lemmas.Bool.{both_ways, cases_Bool, cond-false, and_parts, eqb-true}
 use Rattle.steps.proofs.Sheets.{some_mapped}
 use Rattle.records.specs.declared.pairs.Pair.{Pair}
@@ -13,7 +13,7 @@ use Rattle.records.proofs.Lists.{nth_below}
 
 module _ {K S : Type 0} (means : K → S) (b : K) (vs : List (Var K)) where
   -- what is found is in order
-  found_placed : (ps : List (Pair K)) → All (Placed vs) ps → (x z : ℕ) → is_some (found x z ps) ≡ true → (x < z) × Present vs x × Present vs z
+  found_placed : (ps : List (Pair K)) → AllByRecursion (Placed vs) ps → (x z : ℕ) → is_some (found x z ps) ≡ true → (x < z) × Present vs x × Present vs z
   found_placed [] h x z e = absurd (both_ways false refl e)
   found_placed (p ∷ ps) h x z e =
       ⊎_elim

@@ -1,6 +1,6 @@
 -- One pass over the pairs counts the partners of every variable. Assumes nothing.
 use Rattle.std.proofs.Common.{◌≡◌, ℕ, suc, ◌+◌, ◌%◌, ◌^◌, ◌<◌, ◌≤◌, List, [], ◌∷◌, length, set, Some, None, Option, sym, refl, ap, ◌∙◌, arith}
-use Rattle.std.specs.List.{AllByRecursion as All, slice_get}
+use Rattle.std.specs.List.{AllByRecursion, slice_get}
 use Rattle.steps.specs.Sheet.{degree}
 use Rattle.records.specs.declared.pairs.Pair.{Pair}
 use Rattle.sheets.specs.declared.variables.Var.{Var}
@@ -29,7 +29,7 @@ links_most y (p ∷ ps) =
     let rest : length (links y ps) ≤ length ps = links_most y ps in
     link_cases y p (λ o. length (front o (links y ps)) ≤ suc (length ps)) (λ _. omega arith) (λ _ _. omega arith) (λ _ _. omega arith)
 
-tallied_at : {K : Type 0} (v : ℕ) (ps : List (Pair K)) → All LowFirst ps → (ds : List ℕ) (d : ℕ) → slice_get ds v ≡ Some d → d + length (links v ps) < 2 ^ 64
+tallied_at : {K : Type 0} (v : ℕ) (ps : List (Pair K)) → AllByRecursion LowFirst ps → (ds : List ℕ) (d : ℕ) → slice_get ds v ≡ Some d → d + length (links v ps) < 2 ^ 64
     → slice_get (tallied ds ps) v ≡ Some (d + length (links v ps))
 tallied_at v [] h ds d e few = e ∙ ap Some (omega arith)
 tallied_at v (p ∷ ps) h ds d e few =

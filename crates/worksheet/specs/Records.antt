@@ -1,7 +1,7 @@
 -- The contents that records say: the worksheet that they stand for, whatever their order. Assumes nothing.
 use Rattle.std.specs.Prelude.{◌≡◌, ℕ, ◌<◌, Bool, true, cond, List, [], ◌∷◌, length, Some, None, Option}
 use Rattle.std.specs.Option.{option_map}
-use Rattle.std.specs.List.{AllByRecursion as All, slice_get}
+use Rattle.std.specs.List.{AllByRecursion, slice_get}
 use Rattle.steps.specs.Sheet.{Sheet}
 use Rattle.calls.specs.declared.changes.Four.{Four}
 use Rattle.calls.specs.Standing.{at_four}
@@ -60,5 +60,5 @@ Apart (p ∷ ps) = (found p.low p.high ps ≡ None) × Apart ps
 
 -- each pair is of two variables that remain, the lower first, and there is one record for each
 pub record Arranged {K : Type 0} (vs : List (Var K)) (ps : List (Pair K)) : Type 0 where
-  pub placed : All (Placed vs) ps
+  pub placed : AllByRecursion (Placed vs) ps
   pub apart : Apart ps

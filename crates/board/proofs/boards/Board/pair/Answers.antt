@@ -16,8 +16,8 @@ returns-in_err-scores g c =
     let h = held c.args.self.now in
     let a = c.args.a in
     let b = c.args.b in
-    let place = c.find_place.result in
-    let at : Place (key a b) (used h) place = subst (λ k. Place k (used h) place) (λ i. (c.min_low.ensures i, c.max_high.ensures i)) c.find_place.ensures in
+    let place = c.find-place.result in
+    let at : Place (key a b) (used h) place = subst (λ k. Place k (used h) place) (λ i. (c.min-low.ensures i, c.max-high.ensures i)) c.find-place.ensures in
     let p = err_from_is_err_and c.from_residual.result c.from_residual.ensures.1 in
     subst (Changed M means h h (Pair a b c.args.entries)) (sym (p.1 ∙ ap Err p.2))
     (turned_down M means h (Pair a b c.args.entries) _
@@ -31,8 +31,8 @@ join_pair-requires g c =
     let a = c.args.a in
     let b = c.args.b in
     let es = c.args.entries in
-    let place = c.find_place.result in
-    let at : Place (key a b) (used h) place = subst (λ k. Place k (used h) place) (λ i. (c.min_low.ensures i, c.max_high.ensures i)) c.find_place.ensures in
+    let place = c.find-place.result in
+    let at : Place (key a b) (used h) place = subst (λ k. Place k (used h) place) (λ i. (c.min-low.ensures i, c.max-high.ensures i)) c.find-place.ensures in
     let yes' : None ≡ first_no (change_questions M (records_view h) (Pair a b es)) =
     pair_asked M means h a b es c.score_four.result place _ None c.score_four.ensures at c.is_some.ensures c.in_ok-scores.ensures.reply
     in
@@ -47,10 +47,10 @@ returns g c =
     let a = c.args.a in
     let b = c.args.b in
     let es = c.args.entries in
-    let place = c.find_place.result in
+    let place = c.find-place.result in
     let scores = c.in_ok-scores.scores in
-    let at : Place (key a b) (used h) place = subst (λ k. Place k (used h) place) (λ i. (c.min_low.ensures i, c.max_high.ensures i)) c.find_place.ensures in
+    let at : Place (key a b) (used h) place = subst (λ k. Place k (used h) place) (λ i. (c.min-low.ensures i, c.max-high.ensures i)) c.find-place.ensures in
     accepted M means h _ (join_pair J h (key a b) (lower_first a b scores) place) (Pair a b es)
     (pair_asked M means h a b es c.score_four.result place _ _ c.score_four.ensures at c.is_some.ensures c.in_ok-scores.ensures.reply)
-    (c.join_pair.ensures ∙ (λ i. join_pair J h (c.min_low.ensures i, c.max_high.ensures i) (c.lower_first.ensures i) place))
+    (c.join_pair.ensures ∙ (λ i. join_pair J h (c.min-low.ensures i, c.max-high.ensures i) (c.lower_first.ensures i) place))
     (λ n cs st pass. pair_stands M g.met.K.Kind.lawful means J g.met.K.Kind.exact n h cs st a b es scores place (four_scored M means es c.score_four.result scores c.in_ok-scores.ensures.scores c.score_four.ensures) at pass)
