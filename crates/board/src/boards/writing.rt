@@ -108,7 +108,7 @@ impl<'a, K: Kind> Board<'a, K> {
     }
 
     pub(super) fn join_pair(&mut self, low: u32, high: u32, scores: Four<K>, place: Option<usize>)
-        requires { (self.old.standing < most_changes) × ((is_some place ≡ false → self.old.kept < most_pairs)) }
+        requires { (self.old.standing < most_changes) × (is_some place ≡ false → self.old.kept < most_pairs) }
         ensures { held self.new ≡ join_pair K.Kind.held (held self.old) (low, high) scores place }
     {
         match place {

@@ -14,8 +14,8 @@ offset_bounds-pairs-next g c = let h : c.loop-i.next < length c.args.pairs.now =
 pub loop-i-preserved : goal.loop-i-preserved
 loop-i-preserved g c =
     elim c.if-stays.branch [
-      | then-stays w ↦ rw (w.pairs_is, w.next_is) (FiltersInPlace-more_set c.loop-i.invariant (omega arith) (sym c.stays.ensures ∙ w.if-stays.true) c.index-pairs-i.is)
-      | else-stays w ↦ rw (w.pairs_is, w.next_is) (FiltersInPlace-more_no c.loop-i.invariant (omega arith) (sym c.stays.ensures ∙ w.if-stays.false) c.index-pairs-i.is)
+      | then-stays w ↦ rw (w.pairs-is, w.next-is) (FiltersInPlace-more_set c.loop-i.invariant (omega arith) (sym c.stays.ensures ∙ w.if-stays.true) c.index-pairs-i.is)
+      | else-stays w ↦ rw (w.pairs-is, w.next-is) (FiltersInPlace-more_no c.loop-i.invariant (omega arith) (sym c.stays.ensures ∙ w.if-stays.false) c.index-pairs-i.is)
     ]
 
 pub returns : goal.returns

@@ -8,7 +8,7 @@ loop-pair-preserved g c =
     let J = g.K.Kind.held in
     fold_next (with_pairs g.K.Kind.model g.K.Kind.means J) (λ k p. J k (best_pair g.K.Kind.model g.K.Kind.means p)) (λ _ _ _. refl) (λ _. refl)
     c.args.pairs.now c.loop-pair.pair-index c.pair-item.result c.loop-pair.total _ _ c.loop-pair-test.true c.pair-item.is
-    (c.join_total.ensures ∙ ap (J c.loop-pair.total) c.best_pair.ensures) c.loop-pair.invariant
+    (c.join-total.ensures ∙ ap (J c.loop-pair.total) c.best_pair.ensures) c.loop-pair.invariant
 
 pub returns : goal.returns
 returns g c =

@@ -36,7 +36,7 @@ join_pair-requires g c =
     let yes' : None ≡ first_no (change_questions M (records_view h) (Pair a b es)) =
     pair_asked M means h a b es c.score_four.result place _ None c.score_four.ensures at c.is_some.ensures c.in_ok-scores.ensures.reply
     in
-    λ _. (room M means h (Pair a b es) yes', pair_room M means h a b es place at yes')
+    (room M means h (Pair a b es) yes', pair_room M means h a b es place at yes')
 
 pub returns : goal.returns
 returns g c =
