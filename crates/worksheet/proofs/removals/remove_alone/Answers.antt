@@ -15,9 +15,9 @@ returns-in_err-var g c = rw c.from_residual.ensures
 
 pub returns : goal.returns
 returns g c =
-    let base_is = c.join.ensures ∙ ap (λ b. g.K.Kind.held c.args.base.now b.score) c.better_best.ensures in
+    let base_is = c.join.ensures ∙ ap (λ b. g.K.Kind.held c.args.base.now b.score) c.better-best.ensures in
     let vars_are = c.write.ensures ∙ ap (set c.args.vars.now c.args.y) c.gone.ensures in
-    let note_is = c.alone_note.ensures ∙ ap (alone_note c.args.y) c.better_best.ensures in
+    let note_is = c.alone_note.ensures ∙ ap (alone_note c.args.y) c.better-best.ensures in
     record {
       left = alone_done g.K.Kind.model g.met.K.Kind.lawful g.K.Kind.means g.K.Kind.held g.met.K.Kind.exact
           c.args.base.now _ c.args.vars.now _ c.args.pairs.now c.args.y c.in_ok-var.var _ (sym c.in_ok-var.ensures)

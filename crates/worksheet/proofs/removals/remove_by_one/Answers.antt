@@ -27,19 +27,19 @@ returns g c =
     let at : one_at c.args.vars.now (take c.args.used.now c.args.pairs.now) y ≡ Some by
     = ap (λ ps. one_at c.args.vars.now ps y) (sym c.first.ensures) ∙ sym c.in_ok-var.ensures in
     let vars_are = c.join_at.ensures
-    ∙ ap (λ vs. join_at J vs x c.best_with_one_at0.result.score c.best_with_one_at1.result.score)
+    ∙ ap (λ vs. join_at J vs x c.best_with_one-at0.result.score c.best_with_one-at1.result.score)
     (c.write.ensures ∙ ap (set c.args.vars.now y) c.gone.ensures) in
     record {
       left = one_done g.K.Kind.model g.met.K.Kind.lawful g.K.Kind.means J g.met.K.Kind.exact
-          c.args.vars.now _ (take c.args.used.now c.args.pairs.now) _ y by _ c.best_with_one_at0.result c.best_with_one_at1.result
-          at c.best_with_one_at0.ensures c.best_with_one_at1.ensures vars_are c.drop_pairs.ensures.kept c.one_note.ensures;
+          c.args.vars.now _ (take c.args.used.now c.args.pairs.now) _ y by _ c.best_with_one-at0.result c.best_with_one-at1.result
+          at c.best_with_one-at0.ensures c.best_with_one-at1.ensures vars_are c.drop_pairs.ensures.kept c.one_note.ensures;
       does = if_some _ _ _ by (sym at)
           (record {
             vars_are = vars_are
-                ∙ ap₂ (λ a0 a1. join_at J (set c.args.vars.now y (gone by.var)) x a0.score a1.score) c.best_with_one_at0.ensures c.best_with_one_at1.ensures;
+                ∙ ap₂ (λ a0 a1. join_at J (set c.args.vars.now y (gone by.var)) x a0.score a1.score) c.best_with_one-at0.ensures c.best_with_one-at1.ensures;
             pairs_are = c.drop_pairs.ensures.kept;
             within = c.drop_pairs.ensures.within;
-            note_is = ap Some (c.one_note.ensures ∙ ap₂ (one_note y x) c.best_with_one_at0.ensures c.best_with_one_at1.ensures);
+            note_is = ap Some (c.one_note.ensures ∙ ap₂ (one_note y x) c.best_with_one-at0.ensures c.best_with_one-at1.ensures);
           });
       unused = c.drop_pairs.ensures.rest;
       refused = tt;

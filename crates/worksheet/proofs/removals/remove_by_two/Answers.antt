@@ -26,20 +26,20 @@ returns g c =
     let at : two_at c.args.vars.now (take used all) c.args.y ≡ Some by
     = ap (λ ps. two_at c.args.vars.now ps c.args.y) (sym c.first.ensures) ∙ sym c.in_ok-var.ensures in
     let room = two_room g.K.Kind.model g.met.K.Kind.lawful g.K.Kind.means g.K.Kind.held g.met.K.Kind.exact
-    c.args.vars.now all c.drop_pairs_rest.new.pairs used c.drop_pairs_rest.result c.args.y by at
-    c.drop_pairs_rest.ensures.kept c.drop_pairs_rest.ensures.within c.drop_pairs_rest.auto.pairs in
+    c.args.vars.now all c.drop_pairs-rest.new.pairs used c.drop_pairs-rest.result c.args.y by at
+    c.drop_pairs-rest.ensures.kept c.drop_pairs-rest.ensures.within c.drop_pairs-rest.auto.pairs in
     let J = g.K.Kind.held in
     let x = by.low.partner in
     let z = by.high.partner in
     let y = c.args.y in
-    let best = c.best_with_two_best.ensures in
+    let best = c.best_with_two-best.ensures in
     let vars_are = c.write.ensures ∙ ap (set c.args.vars.now y) c.gone.ensures in
     let pairs_are = ap₂ take c.post_pair.ensures.used c.post_pair.ensures.table
-    ∙ post_in_use J x z c.scores_of.result c.drop_pairs_rest.new.pairs c.drop_pairs_rest.result room.0
-    ∙ ap (post J x z c.scores_of.result) c.drop_pairs_rest.ensures.kept in
+    ∙ post_in_use J x z c.scores_of.result c.drop_pairs-rest.new.pairs c.drop_pairs-rest.result room.0
+    ∙ ap (post J x z c.scores_of.result) c.drop_pairs-rest.ensures.kept in
     record {
       left = two_done g.K.Kind.model g.met.K.Kind.lawful g.K.Kind.means J g.met.K.Kind.exact
-          c.args.vars.now _ (take used all) _ y by _ c.best_with_two_best.result c.scores_of.result at
+          c.args.vars.now _ (take used all) _ y by _ c.best_with_two-best.result c.scores_of.result at
           best c.scores_of.ensures vars_are pairs_are c.two_note.ensures;
       does = if_some _ _ _ by (sym at)
           (record {
@@ -48,13 +48,13 @@ returns g c =
             within = omega (
               arith,
               c.post_pair.ensures.used,
-              post_used_within J x z c.scores_of.result c.drop_pairs_rest.new.pairs c.drop_pairs_rest.result room.0,
-              c.drop_pairs_rest.auto.pairs,
+              post_used_within J x z c.scores_of.result c.drop_pairs-rest.new.pairs c.drop_pairs-rest.result room.0,
+              c.drop_pairs-rest.auto.pairs,
             );
             note_is = ap Some (c.two_note.ensures ∙ ap (two_note y x z) best);
           });
       unused = ap (drop used) c.post_pair.ensures.table
-          ∙ post_in_rest J x z c.scores_of.result c.drop_pairs_rest.new.pairs c.drop_pairs_rest.result used room.1
-          ∙ c.drop_pairs_rest.ensures.rest;
+          ∙ post_in_rest J x z c.scores_of.result c.drop_pairs-rest.new.pairs c.drop_pairs-rest.result used room.1
+          ∙ c.drop_pairs-rest.ensures.rest;
       refused = tt;
     }
