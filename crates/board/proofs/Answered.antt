@@ -1,5 +1,5 @@
 -- What the calls that change a board promise. Assumes nothing.
-use Rattle.std.proofs.Common.{◌≡◌, ℕ, ◌<◌, ◌≤◌, Bool, true, false, cond, not, ◌&&◌, ◌||◌, eqb, ltb, List, [], ◌∷◌, map, length, is_some, is_ok, Some, None, Ok, Err, Option, Result, sym, refl, ap, ◌∙◌, subst, arith}
+use Rattle.std.proofs.Common.{◌≡◌, ℕ, ◌<◌, Bool, true, false, cond, ◌||◌, eqb, ltb, List, [], ◌∷◌, length, is_ok, Some, None, Ok, Err, Option, Result, sym, refl, ap, ◌∙◌, subst, arith}
 use Rattle.std.specs.List.{slice_get}
 use Rattle.std.proofs.lemmas.Bool.{ltb-true, true≢false, false≢true}
 use Rattle.score.specs.Model.{Model, Laws, Together}
@@ -14,12 +14,11 @@ use Rattle.calls.specs.Runs.{without_last}
 use Rattle.calls.specs.Standing.{Standing, more, count, kept_pairs, key, has_key, lower_first}
 use Rattle.calls.proofs.Asked.{all_yes, one_passed, pair_passed}
 use Rattle.records.specs.declared.variables.Var.{Var}
-use Rattle.records.specs.declared.pairs.Pair.{Pair}
 use Rattle.records.specs.declared.history.Was.TheVariants.{Var as WasVar, Pair as WasPair, Unkept}
 use Rattle.records.specs.Pairs.{joined_pair}
 use Rattle.records.specs.Variables.{joined_var, with_pin}
 use Rattle.board.specs.Stands.{Stands, Answered, Changed, TakenBack}
-use Rattle.board.specs.Tables.{Held, records_view, used, pair_key, replace_var, replace_pair, keep_pair, join_one, join_pair, set_pin, take_back, undo_at, Place, AtPlace}
+use Rattle.board.specs.Tables.{Held, records_view, used, replace_var, replace_pair, join_one, join_pair, set_pin, take_back, undo_at, Place}
 use Rattle.records.proofs.Lists.{nth_below, nth_take}
 use Rattle.board.proofs.Pairs.{onto_kept, newly_kept, length_take_most}
 use Rattle.board.proofs.Steps.{stands_more, back_stands}

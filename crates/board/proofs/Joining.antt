@@ -1,5 +1,5 @@
 -- A running join of held scores, and the scores that a layout selects. Assumes nothing.
-use Rattle.std.proofs.Common.{◌≡◌, ℕ, ◌+◌, ◌<◌, ◌≤◌, Bool, true, false, ◌&&◌, List, [], ◌∷◌, ◌++◌, map, length, get_or, drop, Option, sym, refl, ap, ◌∙◌, subst, add-one}
+use Rattle.std.proofs.Common.{◌≡◌, ℕ, ◌+◌, ◌<◌, ◌≤◌, Bool, true, false, ◌&&◌, List, [], ◌∷◌, ◌++◌, map, length, get_or, drop, Option, sym, ap, ◌∙◌, subst, add-one}
 use Rattle.score.specs.Joins.{Joining}
 use Rattle.score.specs.Model.{Model, Laws, Together}
 use Rattle.score.proofs.Joins.{joining_together, joining_next}

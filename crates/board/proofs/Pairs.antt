@@ -1,10 +1,10 @@
 -- Changes to a pair's record: a post onto a kept pair, and a pair that is new. Assumes nothing.
-use Rattle.std.proofs.Common.{◌≡◌, ℕ, zero, suc, ◌+◌, ◌-◌, ◌<◌, ◌≤◌, Bool, true, false, cond, ◌||◌, ltb, List, [], ◌∷◌, ◌++◌, map, length, take, set, Some, None, Option, unwrap_or, sym, refl, ap, ◌∙◌, subst, add-one, arith}
+use Rattle.std.proofs.Common.{◌≡◌, ℕ, zero, suc, ◌+◌, ◌-◌, ◌<◌, ◌≤◌, Bool, true, false, cond, ltb, List, [], ◌∷◌, ◌++◌, map, length, take, set, Some, None, unwrap_or, sym, refl, ap, ◌∙◌, subst, add-one, arith}
 use Rattle.std.specs.List.{AllByRecursion, slice_get}
-use Rattle.std.proofs.ByRecursion.{All-push, All-weaker}
+use Rattle.std.proofs.ByRecursion.{All-push}
 use Rattle.std.proofs.lemmas.List.{length-set, length-take, map_push, take_more_set, length_push}
-use Rattle.std.proofs.lemmas.Bool.{cond-true, cond-false, ltb-true}
-use Rattle.score.specs.Model.{Model, Laws, Of, Together}
+use Rattle.std.proofs.lemmas.Bool.{cond-true, cond-false}
+use Rattle.score.specs.Model.{Model, Laws, Together}
 use Rattle.calls.specs.declared.changes.Change.TheVariants.{Pair as PairPost}
 use Rattle.calls.specs.declared.changes.Four.{Four}
 use Rattle.calls.specs.Entries.{FourScored}
@@ -12,11 +12,11 @@ use Rattle.calls.specs.Questions.{view_of, first_no, change_questions, most_chan
 use Rattle.calls.specs.Standing.{Standing, more, count, kept_pairs, at_four, turned_four, posted_at, pair_score, score_of, key, same_key, has_key, how_many, lower_first}
 use Rattle.calls.proofs.Asked.{pair_passed}
 use Rattle.calls.proofs.Counts.{pair_of_count}
-use Rattle.calls.proofs.OverPosts.{same_key_same, same_key_refl, kept_once, unkept_neutral}
+use Rattle.calls.proofs.OverPosts.{same_key_refl, kept_once, unkept_neutral}
 use Rattle.records.specs.declared.pairs.Pair.{Pair}
 use Rattle.records.specs.declared.history.Was.TheVariants.{Pair as WasPair, Unkept}
 use Rattle.records.specs.Pairs.{joined_four, joined_pair}
-use Rattle.board.specs.Stands.{Tables, tables_of, VarShows, PairShows, Shows, Stands}
+use Rattle.board.specs.Stands.{tables_of, VarShows, PairShows, Shows, Stands}
 use Rattle.board.specs.Tables.{Held, used, pair_key, replace_pair, keep_pair, undo_at}
 use Rattle.records.proofs.Lists.{set_back, take_set, take_pushed}
 use Rattle.board.proofs.Steps.{Written}

@@ -1,7 +1,7 @@
 -- What a layout selects on a board that stands at a list is what it selects in the list. Assumes nothing.
-use Rattle.std.proofs.Common.{◌≡◌, ℕ, zero, suc, ◌+◌, ◌<◌, ◌≤◌, Bool, true, false, cond, ◌&&◌, eqb, List, [], ◌∷◌, ◌++◌, map, length, take, Some, None, Ok, Err, Option, sym, refl, ap, ◌∙◌, subst, add-zero, add-suc, suc-add, arith}
+use Rattle.std.proofs.Common.{◌≡◌, ℕ, zero, suc, ◌+◌, ◌<◌, ◌≤◌, Bool, true, false, ◌&&◌, eqb, List, [], ◌∷◌, ◌++◌, map, length, take, Some, None, Ok, Err, sym, refl, ap, ◌∙◌, subst, add-zero, arith}
 use Rattle.std.specs.List.{AllByRecursion, slice_get}
-use Rattle.std.proofs.lemmas.List.{append-nil, append_assoc, length-take-le}
+use Rattle.std.proofs.lemmas.List.{append-nil, length-take-le}
 use Rattle.std.proofs.lemmas.Bool.{eqb-true}
 use Rattle.score.specs.Joins.{Joining, Within}
 use Rattle.score.specs.Model.{Model, Laws, joined, exact_entries}
@@ -15,7 +15,7 @@ use Rattle.calls.proofs.Counts.{layout_within}
 use Rattle.records.specs.declared.pairs.Pair.{Pair}
 use Rattle.records.specs.declared.variables.Var.{Var}
 use Rattle.records.specs.Variables.{var_at}
-use Rattle.board.specs.Scoring.{vars_at, pair_at, pairs_at, JoinsOn}
+use Rattle.board.specs.Scoring.{vars_at, pairs_at, JoinsOn}
 use Rattle.board.specs.ScoringBoard.{layout_at, LayoutJoined}
 use Rattle.board.specs.Stands.{VarShows, PairShows, Stands, Scored}
 use Rattle.board.specs.Tables.{Held, used, pair_key, records_view}

@@ -1,14 +1,14 @@
 -- What every call promises, after any list of calls. Assumes nothing.
-use Rattle.std.proofs.Common.{◌≡◌, ℕ, Bool, true, false, cond, List, is_some, is_ok, Some, None, Ok, Err, Option, Result, sym, refl, ap, ◌∙◌, subst}
+use Rattle.std.proofs.Common.{◌≡◌, ℕ, Bool, true, false, cond, List, is_some, is_ok, Some, None, Ok, Err, Result, sym, refl, ap, ◌∙◌, subst}
 use Rattle.std.proofs.lemmas.Bool.{true≢false}
 use Rattle.score.specs.Model.{Model}
 use Rattle.calls.specs.declared.changes.Call.{Call}
 use Rattle.calls.specs.declared.changes.Call.TheVariants.{Post, Back, Score}
 use Rattle.calls.specs.declared.changes.Change.{Change}
 use Rattle.calls.specs.declared.refusals.Refusal.{Refusal}
-use Rattle.calls.specs.Questions.{View, Question, view_of, first_no, refusal_in}
-use Rattle.calls.specs.Runs.{sent, Calls, Reply, done, is, denied, questions, refused, carried_out, after_call, accepted_reply, reply_or, reply_at, standing, values}
-use Rattle.calls.specs.Standing.{Standing, layout_score}
+use Rattle.calls.specs.Questions.{first_no, refusal_in}
+use Rattle.calls.specs.Runs.{sent, Reply, done, is, denied, questions, refused, carried_out, after_call, accepted_reply, reply_or, reply_at, standing}
+use Rattle.calls.specs.Standing.{Standing}
 use Rattle.calls.proofs.Striking.{taking_back}
 use Rattle.calls.specs.declared.answers.Answer.{Answer}
 use Rattle.calls.specs.declared.answers.Answer.TheVariants.{Done, Is}

@@ -1,11 +1,10 @@
 -- A change goes on at the end of the list, and a back takes its last away. Assumes nothing.
-use Rattle.std.proofs.Common.{◌≡◌, ℕ, suc, ◌+◌, ◌-◌, ◌<◌, ◌≤◌, Bool, true, false, cond, List, [], ◌∷◌, ◌++◌, map, length, take, set, Some, None, Option, sym, refl, ap, ◌∙◌, subst, arith}
+use Rattle.std.proofs.Common.{◌≡◌, ℕ, suc, ◌-◌, ◌<◌, ◌≤◌, List, length, take, set, Some, None, sym, refl, ap, ◌∙◌, subst, arith}
 use Rattle.std.specs.List.{slice_get}
 use Rattle.std.proofs.lemmas.List.{length-set, length-map, length-take-le, take-take}
 use Rattle.score.specs.Model.{Model}
 use Rattle.calls.specs.declared.changes.Change.{Change}
-use Rattle.calls.specs.Posts.{Valid}
-use Rattle.calls.specs.Questions.{view_of, first_no, change_questions, most_changes}
+use Rattle.calls.specs.Questions.{view_of, first_no, change_questions}
 use Rattle.calls.specs.Runs.{without_last}
 use Rattle.calls.specs.Standing.{Standing, fresh, more, count, kept_pairs}
 use Rattle.calls.proofs.Asked.{change_room}

@@ -1,6 +1,6 @@
 -- Changes to a variable's record: one, pin and free. Assumes nothing.
-use Rattle.std.proofs.Common.{◌≡◌, ℕ, suc, ◌+◌, ◌<◌, ◌≤◌, Bool, true, false, cond, eqb, ◌⊎◌, List, map, length, set, Some, None, Option, unwrap_or, sym, refl, ap, ◌∙◌, subst, inl, inr, arith}
-use Rattle.std.specs.List.{AllByRecursion, slice_get}
+use Rattle.std.proofs.Common.{◌≡◌, ℕ, ◌<◌, true, false, eqb, ◌⊎◌, length, set, Some, None, unwrap_or, sym, refl, ap, ◌∙◌, subst, inl, inr, arith}
+use Rattle.std.specs.List.{slice_get}
 use Rattle.std.proofs.ByRecursion.{All-weaker}
 use Rattle.std.proofs.lemmas.List.{length-set}
 use Rattle.std.proofs.lemmas.Bool.{cases_eq, cond-true, cond-false, eq-eqb, ne_eqb}
@@ -9,13 +9,13 @@ use Rattle.score.proofs.Entries.{of_one}
 use Rattle.calls.specs.declared.changes.Change.{Change}
 use Rattle.calls.specs.declared.changes.Change.TheVariants.{One, Pin, Free}
 use Rattle.calls.specs.Questions.{view_of, first_no, change_questions, most_changes}
-use Rattle.calls.specs.Standing.{Standing, more, count, kept_pairs, pin_of, one_score, pair_score, score_of}
+use Rattle.calls.specs.Standing.{Standing, more, count, kept_pairs, pin_of, one_score, score_of}
 use Rattle.calls.proofs.Asked.{one_passed}
 use Rattle.calls.proofs.Counts.{one_of_count}
 use Rattle.records.specs.declared.variables.Var.{Var}
 use Rattle.records.specs.declared.history.Was.TheVariants.{Var as WasVar}
 use Rattle.records.specs.Variables.{joined_var, with_pin}
-use Rattle.board.specs.Stands.{Tables, tables_of, VarShows, PairShows, Shows, Stands}
+use Rattle.board.specs.Stands.{VarShows, PairShows, Stands}
 use Rattle.board.specs.Tables.{Held, used, replace_var, undo_at}
 use Rattle.records.proofs.Lists.{nth_below, nth_set_same, nth_set_other, set_back}
 use Rattle.board.proofs.Steps.{Written}

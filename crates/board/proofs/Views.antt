@@ -1,6 +1,6 @@
 -- The questions put to the records are those put to the list. Assumes nothing.
-use Rattle.std.proofs.Common.{◌≡◌, ℕ, ◌<◌, Bool, true, false, cond, not, ltb, List, [], ◌∷◌, map, length, is_some, Some, None, Option, sym, refl, ap, ◌∙◌, subst, ⊎_elim}
-use Rattle.std.proofs.lemmas.Bool.{cases_Bool, ltb-true}
+use Rattle.std.proofs.Common.{◌≡◌, ℕ, ◌<◌, Bool, true, false, not, ltb, List, [], ◌∷◌, length, is_some, Option, refl, ap, ◌∙◌}
+use Rattle.std.proofs.lemmas.Bool.{ltb-true}
 use Rattle.score.specs.Model.{Model}
 use Rattle.calls.specs.declared.changes.Change.{Change}
 use Rattle.calls.specs.declared.changes.Change.TheVariants.{One, Pair, Pin, Free}
@@ -9,7 +9,7 @@ use Rattle.calls.specs.declared.refusals.Refusal.TheVariants.{NoVariable, Value,
 use Rattle.calls.specs.Questions.{View, Question, view_of, first_no, change_questions, most_changes}
 use Rattle.calls.specs.Standing.{Standing, fresh, more, count, kept_pairs, pin_of}
 use Rattle.board.specs.Stands.{Tables, tables_of, Shows, Traces, Stands}
-use Rattle.board.specs.Tables.{Held, pair_key, used, var_pin, records_view}
+use Rattle.board.specs.Tables.{Held, var_pin, records_view}
 
 -- under a first question that says no, the rest does not matter
 under : (t : Bool) (f : Refusal) (p q : Option Bool) (rest : Option Bool → List Question) → (t ≡ true → p ≡ q)

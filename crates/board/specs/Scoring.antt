@@ -1,5 +1,5 @@
 -- The held scores that a layout selects, and a running join of them. Assumes nothing.
-use Rattle.std.specs.Prelude.{◌≡◌, ℕ, suc, List, [], ◌∷◌, ◌++◌, map}
+use Rattle.std.specs.Prelude.{ℕ, suc, List, [], ◌∷◌, ◌++◌, map}
 use Rattle.score.specs.Joins.{Joining}
 use Rattle.score.specs.Model.{Model}
 use Rattle.calls.specs.Runs.{values}

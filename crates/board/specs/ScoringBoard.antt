@@ -1,6 +1,6 @@
 -- The join of all that a layout selects on a board. Assumes nothing.
-use Rattle.std.specs.Prelude.{◌≡◌, ℕ, List, [], ◌++◌, map, take}
-use Rattle.score.specs.Joins.{Joining, Within}
+use Rattle.std.specs.Prelude.{◌≡◌, ℕ, List, ◌++◌, map, take}
+use Rattle.score.specs.Joins.{Within}
 use Rattle.score.specs.Model.{Model, joined, exact_entries}
 use Rattle.board.specs.Scoring.{vars_at, pairs_at}
 use Rattle.board.specs.Tables.{Held, used}

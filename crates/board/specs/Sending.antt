@@ -1,11 +1,11 @@
 -- What every call on a board promises, after any list of calls. Assumes nothing.
-use Rattle.std.specs.Prelude.{◌≡◌, ℕ, Bool, true, false, List, is_ok, Some, None, Ok, Err, Result}
+use Rattle.std.specs.Prelude.{◌≡◌, ℕ, false, List, is_ok, Ok, Err, Result}
 use Rattle.score.specs.Model.{Model}
 use Rattle.calls.specs.declared.changes.Call.{Call}
-use Rattle.calls.specs.declared.changes.Call.TheVariants.{Post, Back, Score}
+use Rattle.calls.specs.declared.changes.Call.TheVariants.{Score}
 use Rattle.calls.specs.declared.refusals.Refusal.{Refusal}
 use Rattle.calls.specs.Questions.{first_no, refusal_in}
-use Rattle.calls.specs.Runs.{Sent, sent, Calls, then, Reply, done, is, denied, Struck, questions, standing, after_call, reply_at, reply_after}
+use Rattle.calls.specs.Runs.{sent, Calls, then, Reply, done, is, denied, Struck, questions, standing, after_call, reply_at, reply_after}
 use Rattle.calls.specs.Standing.{Standing}
 use Rattle.calls.specs.declared.answers.Answer.{Answer}
 use Rattle.calls.specs.declared.answers.Answer.TheVariants.{Done, Is}

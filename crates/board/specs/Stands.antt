@@ -11,7 +11,6 @@ use Rattle.calls.specs.Runs.{without_last, values}
 use Rattle.records.specs.declared.pairs.Pair.{Pair}
 use Rattle.records.specs.declared.history.Undo.{Undo}
 use Rattle.records.specs.declared.variables.Var.{Var}
-use Rattle.records.specs.declared.history.Was.{Was}
 use Rattle.records.specs.declared.history.Was.TheVariants.{Var as WasVar, Pair as WasPair, Unkept}
 use Rattle.board.specs.Tables.{Held, pair_key, used, records_view}
 

@@ -1,5 +1,5 @@
 -- Every score that a board holds is of few enough entries. Assumes nothing.
-use Rattle.std.proofs.Common.{◌≡◌, ℕ, suc, ◌+◌, ◌-◌, ◌<◌, ◌≤◌, Bool, true, false, cond, ◌&&◌, eqb, ltb, leb, List, [], ◌∷◌, ◌++◌, map, is_some, Some, None, Option, unwrap_or, sym, refl, ap, ◌∙◌, subst, inl, inr, add_assoc, add_comm, arith}
+use Rattle.std.proofs.Common.{◌≡◌, ℕ, suc, ◌+◌, ◌-◌, ◌≤◌, Bool, true, false, cond, ◌&&◌, eqb, ltb, leb, List, [], ◌∷◌, ◌++◌, map, is_some, Some, None, Option, unwrap_or, refl, subst, add_assoc, arith}
 use Rattle.std.proofs.lemmas.List.{append-nil}
 use Rattle.std.proofs.lemmas.Bool.{false≢true, cond_both}
 use Rattle.std.proofs.lemmas.Bool.Decides.{nat_tests}
@@ -10,7 +10,7 @@ use Rattle.calls.specs.declared.changes.Change.TheVariants.{One, Pair, Pin, Free
 use Rattle.calls.specs.declared.changes.Four.{Four}
 use Rattle.calls.specs.Posts.{Valid, selected}
 use Rattle.calls.specs.Questions.{view_of, takes, takes_four}
-use Rattle.calls.specs.Standing.{Standing, fresh, more, count, at_four, posted_at, score_of, one_score, pair_score, key, same_key, kept_pairs, variables, layout_score}
+use Rattle.calls.specs.Standing.{Standing, fresh, more, count, at_four, posted_at, score_of, one_score, pair_score, key, same_key, kept_pairs, variables}
 use Rattle.calls.proofs.Asked.{one_passed, pair_passed, change_room}
 use Rattle.calls.proofs.OverPosts.{over_posts_within, valid_in_range}
 

@@ -1,7 +1,7 @@
 -- The scores over variables and kept pairs are those over standing posts. Assumes nothing.
-use Rattle.std.proofs.Common.{◌≡◌, ℕ, zero, suc, ◌+◌, ◌<◌, ◌≤◌, min, max, Bool, true, false, cond, ◌&&◌, ◌||◌, eqb, ltb, leb, List, [], ◌∷◌, ◌++◌, map, Some, None, sym, refl, ap, ◌∙◌, subst, arith}
+use Rattle.std.proofs.Common.{◌≡◌, ℕ, zero, suc, ◌+◌, ◌<◌, min, max, Bool, true, false, cond, ◌||◌, eqb, ltb, List, [], ◌∷◌, ◌++◌, map, sym, refl, ap, ◌∙◌, subst, arith}
 use Rattle.std.proofs.lemmas.List.{append-nil, map_push}
-use Rattle.std.proofs.lemmas.Bool.{true≢false, or_parts, and_parts, and_from, cases_Bool, cond-true, cond-false, eq-eqb, eqb-true, ltb-true, ltb-false, lt-ltb}
+use Rattle.std.proofs.lemmas.Bool.{true≢false, or_parts, and_parts, and_from, cond-true, cond-false, eq-eqb, eqb-true, ltb-true, ltb-false, lt-ltb}
 use Rattle.std.proofs.lemmas.Bool.Decides.{nat_tests}
 use Rattle.score.specs.Model.{Model, Laws, joined}
 use Rattle.score.proofs.Entries.{joined_append, unit_right}
@@ -10,7 +10,7 @@ use Rattle.calls.specs.declared.changes.Four.{Four}
 use Rattle.calls.specs.Posts.{Valid, selected, OverPosts}
 use Rattle.calls.specs.Questions.{view_of}
 use Rattle.calls.specs.Standing.{Standing, fresh, more, at_four, posted_at, score_of, one_score, pair_score, key, same_key, has_key, kept_pairs, variables, layout_score, how_many}
-use Rattle.calls.proofs.Asked.{one_passed, pair_passed}
+use Rattle.calls.proofs.Asked.{one_passed}
 
 or_false : (a : Bool) → (a || false) ≡ a
 or_false true = refl

@@ -4,11 +4,10 @@ use Rattle.std.proofs.lemmas.Bool.{ltb-true}
 use Rattle.score.specs.Model.{Model}
 use Rattle.calls.specs.declared.changes.Call.{Call}
 use Rattle.calls.specs.declared.changes.Call.TheVariants.{Post, Back, Score}
-use Rattle.calls.specs.declared.changes.Change.{Change}
 use Rattle.calls.specs.declared.refusals.Refusal.{Refusal}
 use Rattle.calls.specs.Posts.{Valid}
 use Rattle.calls.specs.Questions.{view_of, back_questions}
-use Rattle.calls.specs.Runs.{Sent, sent, Calls, none, then, WithoutChange, this, before_score, Struck, nothing, turned_down, change, score, back, standing, refused, carried_out, after_call, without_last, reply_at, NoTrace, TakingBack}
+use Rattle.calls.specs.Runs.{Sent, sent, Calls, none, then, WithoutChange, this, before_score, Struck, nothing, turned_down, change, score, back, standing, refused, carried_out, after_call, without_last, reply_at, TakingBack}
 use Rattle.calls.specs.Standing.{Standing, fresh, more, count}
 use Rattle.calls.proofs.Asked.{all_yes}
 

@@ -1,5 +1,5 @@
 -- Lists of calls: the changes that stand after them, the replies, and what remains when they are struck. Assumes nothing.
-use Rattle.std.specs.Prelude.{◌≡◌, ℕ, Bool, true, false, cond, List, [], ◌∷◌, is_some, Some, None, Option, ◌==◌, slice_index}
+use Rattle.std.specs.Prelude.{◌≡◌, ℕ, Bool, cond, List, is_some, Some, None, Option, ◌==◌, slice_index}
 use Rattle.score.specs.Model.{Model}
 use Rattle.calls.specs.declared.changes.Call.{Call}
 use Rattle.calls.specs.declared.changes.Call.TheVariants.{Post, Back, Score}

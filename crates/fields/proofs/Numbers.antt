@@ -1,10 +1,10 @@
 -- What digits write, digit by digit. Assumes nothing.
-use Rattle.std.proofs.Common.{◌≡◌, ℕ, suc, ◌+◌, ◌-◌, ◌*◌, ◌^◌, ◌<◌, ◌≤◌, min, Bool, true, false, cond, ◌&&◌, eqb, ltb, leb, List, [], ◌∷◌, ◌++◌, length, get_or, take, drop, sym, refl, ap, ◌∙◌, subst, arith, eq-eqb, ne_eqb, false-eqb}
+use Rattle.std.proofs.Common.{◌≡◌, ℕ, ◌+◌, ◌-◌, ◌*◌, ◌<◌, min, true, false, ◌&&◌, eqb, List, [], ◌∷◌, ◌++◌, length, get_or, take, drop, sym, refl, ap, ◌∙◌, subst, arith, eq-eqb, ne_eqb, false-eqb}
 use Rattle.std.specs.Char.{is_ascii_digit}
 use Rattle.std.specs.Str.{all_ascii_digits}
 use Rattle.std.proofs.lemmas.List.{at_drop_more, take_more, take_rest}
 use Rattle.std.proofs.lemmas.Bool.{cond-true, cond-false}
-use Rattle.fields.specs.Values.{minus, has_minus, unsigned, value_after, value}
+use Rattle.fields.specs.Values.{minus, unsigned, value_after, value}
 
 -- the steps of a search for a byte that is no digit
 module _ (bs : List ℕ) (i : ℕ) (inside : i < length bs) where

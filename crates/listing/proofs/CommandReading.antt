@@ -1,11 +1,11 @@
 -- A command is read field by field. Assumes nothing.
-use Rattle.std.proofs.Common.{◌≡◌, ℕ, suc, ◌+◌, ◌^◌, ◌<◌, List, [], ◌∷◌, ◌++◌, length, get_or, IsErrAnd, Some, None, Ok, Err, Result, sym, refl, ap, ◌∙◌, subst, arith, MatchResult}
+use Rattle.std.proofs.Common.{◌≡◌, ℕ, ◌+◌, List, ◌∷◌, IsErrAnd, Some, Ok, Err, Result, sym, ap, ◌∙◌, subst, MatchResult}
 use Rattle.std.proofs.lemmas.Result.{err_from_is_err_and}
 use Rattle.fields.specs.declared.faults.Place.{Place}
 use Rattle.fields.specs.declared.faults.FieldFault.{FieldFault}
 use Rattle.fields.specs.Questions.{first_no, answered}
 use Rattle.fields.specs.Forms.{Form, asked}
-use Rattle.listing.specs.Lines.{place_at, field_questions}
+use Rattle.listing.specs.Lines.{field_questions}
 use Rattle.listing.specs.Asked.{replied_ok, replied_err, field_yes, field_no}
 use Rattle.listing.proofs.EntryReading.{IsField}
 

@@ -1,12 +1,11 @@
 -- An entry is read field by field. Assumes nothing.
-use Rattle.std.proofs.Common.{◌≡◌, ℕ, suc, ◌+◌, ◌^◌, ◌<◌, List, [], ◌∷◌, ◌++◌, length, get_or, ℤ, IsErrAnd, Some, None, Ok, Err, Option, Result, sym, refl, ap, ◌∙◌, subst, arith}
+use Rattle.std.proofs.Common.{◌≡◌, ℕ, ◌+◌, ◌^◌, ◌<◌, List, [], ◌∷◌, ◌++◌, length, get_or, ℤ, IsErrAnd, Ok, Err, Result, sym, ap, ◌∙◌, arith}
 use Rattle.std.proofs.lemmas.Result.{err_from_is_err_and}
 use Rattle.fields.specs.declared.faults.Place.{Place}
 use Rattle.fields.specs.declared.faults.FieldFault.{FieldFault}
 use Rattle.fields.specs.Questions.{first_no, replied, answered}
 use Rattle.fields.specs.Values.{signed_value}
 use Rattle.fields.specs.Forms.{Form, integer, asked}
-use Rattle.listing.specs.declared.entries.ByValue.{ByValue}
 use Rattle.listing.specs.Lines.{place_at, field_questions}
 use Rattle.listing.specs.Entries.{EntryForm, entry_reply, weighted_form, by_value_form}
 use Rattle.listing.specs.Asked.{replied_ok, replied_err, first_after, first_among, field_yes, field_no, questions_append}

@@ -1,11 +1,10 @@
 -- A line is read: its word, its place, the number of its fields, and then the fields. Assumes nothing.
-use Rattle.std.proofs.Common.{◌≡◌, ℕ, suc, ◌+◌, ◌-◌, ◌^◌, ◌<◌, ◌≤◌, min, Bool, true, false, cond, not, eqb, leb, List, [], ◌∷◌, ◌++◌, length, get_or, is_some, Some, None, Option, sym, refl, ap, ◌∙◌, subst, arith, eq-eqb, ne_eqb, leb-true, true-eqb, false-eqb}
+use Rattle.std.proofs.Common.{◌≡◌, ℕ, suc, ◌+◌, ◌-◌, ◌^◌, ◌<◌, ◌≤◌, min, Bool, true, false, cond, not, eqb, leb, List, [], ◌∷◌, length, is_some, Some, None, Option, refl, ap, ◌∙◌, arith, eq-eqb, ne_eqb, leb-true, true-eqb, false-eqb}
 use Rattle.std.specs.Option.{option_map}
 use Rattle.fields.specs.declared.faults.FieldFault.{FieldFault}
 use Rattle.fields.specs.declared.faults.LineFault.{LineFault}
 use Rattle.fields.specs.declared.faults.LineFault.TheVariants.{TooLong, UnknownWord, Misplaced, FieldCount, Field}
 use Rattle.fields.specs.declared.words.Call.{Call as CallWord}
-use Rattle.fields.specs.declared.words.Word.{Word}
 use Rattle.fields.specs.declared.words.Word.TheVariants.{Board, Call}
 use Rattle.fields.specs.Questions.{Question, first_no}
 use Rattle.fields.specs.Forms.{Form}

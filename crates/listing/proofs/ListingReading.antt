@@ -1,9 +1,8 @@
 -- A listing is read line by line. Assumes nothing.
-use Rattle.std.proofs.Common.{◌≡◌, ℕ, suc, ◌+◌, ◌-◌, ◌^◌, ◌<◌, ◌≤◌, min, Bool, true, false, cond, eqb, leb, List, [], ◌∷◌, length, drop, Some, None, Ok, Err, Option, Result, sym, refl, ap, ◌∙◌, subst, arith, le-leb}
+use Rattle.std.proofs.Common.{◌≡◌, ℕ, suc, ◌+◌, ◌-◌, ◌^◌, ◌<◌, ◌≤◌, min, Bool, true, false, cond, eqb, leb, List, [], ◌∷◌, length, drop, Some, None, Ok, Err, sym, refl, ap, ◌∙◌, subst, arith, le-leb}
 use Rattle.std.proofs.lemmas.List.{drop-drop, nil_from_length}
 use Rattle.std.proofs.lemmas.Bool.{cond-true}
 use Rattle.fields.specs.declared.faults.LineFault.{LineFault}
-use Rattle.fields.specs.declared.faults.ListingFault.{ListingFault}
 use Rattle.fields.specs.declared.faults.ListingFault.TheVariants.{TooLarge, Line}
 use Rattle.fields.specs.Text.{upto, past, onto, pieces}
 use Rattle.listing.specs.declared.commands.Opening.{Opening}

@@ -1,5 +1,5 @@
 -- A command that is written out as a line is read back as itself. Assumes nothing.
-use Rattle.std.proofs.Common.{◌≡◌, ℕ, suc, ◌+◌, ◌<◌, ◌≤◌, Bool, true, false, cond, not, ◌&&◌, eqb, leb, List, [], ◌∷◌, ◌++◌, length, get_or, is_some, Some, None, Ok, Err, decimal, Result, sym, refl, ap, ◌∙◌, subst, append-nil, arith, length-append, le-leb, MatchResult}
+use Rattle.std.proofs.Common.{◌≡◌, ℕ, suc, ◌+◌, ◌≤◌, Bool, true, not, ◌&&◌, eqb, List, [], ◌∷◌, ◌++◌, length, get_or, is_some, Some, None, Ok, Err, decimal, Result, refl, ap, ◌∙◌, arith, length-append, le-leb, MatchResult}
 use borrow.Author.Tests.{eqb-false, not-true}
 use Rattle.std.specs.Option.{option_map}
 use Rattle.std.specs.List.{AllByRecursion}
@@ -13,8 +13,7 @@ use Rattle.fields.specs.declared.words.Call.{Call as CallWord}
 use Rattle.fields.specs.declared.words.Call.TheVariants.{One, Pair, Pin, Free, Back, Score}
 use Rattle.fields.specs.declared.words.Word.{Word}
 use Rattle.fields.specs.declared.words.Word.TheVariants.{Board, Call}
-use Rattle.fields.specs.Text.{pieces, onto}
-use Rattle.fields.specs.Values.{value, natural_range}
+use Rattle.fields.specs.Values.{natural_range}
 use Rattle.fields.specs.Questions.{first_no, replied}
 use Rattle.fields.specs.Forms.{Form, natural, layout, kind, some, letter, kind_of, named_kind, asked}
 use Rattle.fields.specs.Words.{spelling, word_of}
@@ -25,7 +24,7 @@ use Rattle.listing.specs.Lines.{place_at, field_questions}
 use Rattle.listing.specs.Entries.{EntryForm, by_value_form}
 use Rattle.listing.specs.Commands.{Said, one, pair, pin, free, back, score, says, said, call_forms}
 use Rattle.listing.specs.Reading.{line_limit, word_at, word_questions, opening_forms, opening_of, opening_questions, opening_reply, command_questions, command_of, CommandReply}
-use Rattle.listing.specs.RoundTrip.{opening_fields, written_opening, OpeningBack, command_fields, written_command, fits_command, CommandBack}
+use Rattle.listing.specs.RoundTrip.{opening_fields, OpeningBack, CommandBack}
 use Rattle.listing.specs.Written.{ReadsBack}
 use Rattle.listing.specs.Asked.{all_yes}
 use Rattle.listing.specs.EntryWriting.{passes_field, passes_last, same_last, by_value_back}

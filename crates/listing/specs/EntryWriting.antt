@@ -1,12 +1,9 @@
 -- An entry that is written into fields is read back. Assumes nothing.
-use Rattle.std.proofs.Common.{◌≡◌, ℕ, suc, ◌+◌, Bool, true, false, ◌&&◌, List, [], ◌∷◌, ◌++◌, length, get_or, ℤ, None, decimal, sym, refl, ap, ◌∙◌, subst, append_assoc, append-nil, arith, length-append}
+use Rattle.std.proofs.Common.{◌≡◌, ℕ, suc, ◌+◌, true, List, [], ◌∷◌, ◌++◌, length, get_or, None, decimal, sym, refl, ap, ◌∙◌, append_assoc, append-nil, arith, length-append}
 use Rattle.std.specs.Fmt.{signed_decimal}
 use Rattle.std.proofs.ByRecursion.{All-append}
 use Rattle.std.proofs.lemmas.List.{get_or_at, get_or-append-add, length_push}
 use Rattle.std.proofs.lemmas.Bool.{and_parts}
-use Rattle.score.specs.declared.margins.Slack.{Slack}
-use Rattle.score.specs.declared.tiers.Weighted.{Weighted}
-use Rattle.score.specs.declared.totals.Access.{Access}
 use Rattle.fields.specs.Values.{value, signed_value, natural_range, integer_range}
 use Rattle.fields.specs.Questions.{first_no}
 use Rattle.fields.specs.Forms.{Form, natural, integer, asked}

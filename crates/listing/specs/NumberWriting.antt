@@ -1,19 +1,15 @@
 -- A number that is written in decimal digits is read back. Assumes nothing.
-use Rattle.std.proofs.Common.{◌≡◌, ℕ, zero, suc, ◌+◌, ◌-◌, ◌*◌, ◌^◌, ◌<◌, ◌≤◌, Bool, true, false, cond, ◌&&◌, eqb, ltb, leb, List, [], ◌∷◌, ◌++◌, length, get_or, ℤ, pos, negsuc, neg_ℤ, nat_abs, None, decimal, sym, refl, ap, ◌∙◌, subst, arith, rules, lt-ltb, ne_eqb, le-leb, leb-true}
-use lib.Signed.{le_z}
-use Rattle.std.specs.Int.{IsInRange}
+use Rattle.std.proofs.Common.{◌≡◌, ℕ, suc, ◌^◌, ◌<◌, ◌≤◌, true, false, cond, ltb, leb, List, [], ◌∷◌, length, get_or, ℤ, pos, negsuc, neg_ℤ, nat_abs, None, decimal, sym, refl, ap, ◌∙◌, subst, arith, rules, lt-ltb, ne_eqb, le-leb, leb-true}
 use Rattle.std.specs.Char.{is_ascii_digit}
 use Rattle.std.specs.Fmt.{signed_decimal}
-use Rattle.std.specs.List.{AllByRecursion}
 use Rattle.std.specs.Str.{all_ascii_digits}
 use Rattle.std.proofs.lemmas.Fmt.{digits_decimal, digits_value-decimal, length-decimal-le, decimal_nonempty}
 use Rattle.std.proofs.lemmas.Str.Parse.{IsNumeralModel, numerals_by_fold, not_in_digits, tells_all_ascii_digits}
 use Rattle.std.proofs.lemmas.Int.{ints}
 use Rattle.std.proofs.lemmas.Bool.{and_parts, and_from, false≢true}
-use Rattle.std.proofs.lemmas.Bool.Decides.{nat_tests}
 use Rattle.fields.specs.declared.faults.Place.{Place}
 use Rattle.fields.specs.Values.{minus, has_minus, unsigned, value_after, value, signed_value, natural_range, integer_range}
-use Rattle.fields.specs.Questions.{Question, first_no}
+use Rattle.fields.specs.Questions.{first_no}
 use Rattle.fields.specs.Forms.{natural, integer, asked}
 use Rattle.fields.proofs.Numbers.{unsigned_none}
 use Rattle.listing.specs.Text.{comma, Without}

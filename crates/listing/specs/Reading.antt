@@ -1,6 +1,5 @@
 -- What a line means: the first question that says no, or the command that it spells. Assumes nothing.
 use Rattle.std.specs.Prelude.{◌≡◌, ℕ, suc, Bool, true, false, not, List, [], ◌∷◌, ◌++◌, length, is_some, Some, None, Option, Result, MatchResult, ◌==◌, nat_le, slice_index_or}
-use Rattle.std.specs.Option.{option_map}
 use Rattle.fields.specs.declared.faults.FieldFault.{FieldFault}
 use Rattle.fields.specs.declared.faults.LineFault.{LineFault}
 use Rattle.fields.specs.declared.faults.LineFault.TheVariants.{TooLong, UnknownWord, Misplaced, FieldCount, Field}

@@ -1,5 +1,5 @@
 -- What is written into fields is read back from them. Assumes nothing.
-use Rattle.std.specs.Prelude.{◌≡◌, ℕ, true, List, [], ◌∷◌, ◌++◌, length, None}
+use Rattle.std.specs.Prelude.{◌≡◌, ℕ, true, List, ◌++◌, length, None}
 use Rattle.std.specs.List.{AllByRecursion}
 use Rattle.fields.specs.Questions.{first_no}
 use Rattle.listing.specs.Text.{comma, Without}

@@ -1,8 +1,7 @@
 -- The laws of "of m entries" hold for every kind. Assumes nothing.
-use Rattle.std.proofs.Common.{◌≡◌, ℕ, ◌+◌, ◌≤◌, max, Bool, true, false, cond, List, [], ◌∷◌, ◌++◌, length, Some, sym, refl, ap, ◌∙◌, arith, length-append}
-use Rattle.std.specs.List.{AllByRecursion}
+use Rattle.std.proofs.Common.{◌≡◌, ℕ, ◌+◌, ◌≤◌, max, Bool, true, false, cond, List, [], ◌∷◌, ◌++◌, Some, sym, refl, ap, ◌∙◌, arith, length-append}
 use Rattle.std.proofs.ByRecursion.{All-append}
-use Rattle.score.specs.Model.{Model, Laws, Entered, Of, joined, better}
+use Rattle.score.specs.Model.{Model, Laws, Entered, Of, joined}
 use Rattle.score.specs.Entries.{EntryLaws}
 
 module _ {E S : Type 0} (M : Model E S) where

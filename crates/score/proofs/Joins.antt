@@ -1,5 +1,5 @@
 -- A running join: its start, its step and its end. Assumes nothing.
-use Rattle.std.proofs.Common.{◌≡◌, ℕ, ◌+◌, ◌-◌, ◌≤◌, List, [], ◌∷◌, sym, refl, ap, ◌∙◌, subst, arith}
+use Rattle.std.proofs.Common.{◌≡◌, ◌+◌, ◌-◌, ◌≤◌, List, [], ◌∷◌, sym, ◌∙◌, subst, arith}
 use Rattle.score.specs.Joins.{Within, Joining}
 use Rattle.score.specs.Model.{Model, Laws, Together, joined, exact_entries}
 use Rattle.score.proofs.Entries.{of_none, of_sum, unit_right}

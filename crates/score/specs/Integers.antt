@@ -1,10 +1,9 @@
 -- Whole numbers under addition and their order keep the laws of scores, and how large a sum of m entries can be. Assumes nothing.
-use Rattle.std.specs.Prelude.{◌≡◌, ℕ, zero, suc, ◌+◌, ◌*◌, ◌^◌, ◌<◌, ◌≤◌, true, ◌⊎◌, List, [], ◌∷◌, length, ℤ, pos, negsuc, ◌+ℤ◌, Some, Option, int_le, unsigned_abs, refl}
-use Rattle.std.proofs.Common.{sym, ap, subst, ◌∙◌, arith, add-mul, mul-le-mul_right}
+use Rattle.std.specs.Prelude.{◌≡◌, ℕ, ◌+◌, ◌*◌, ◌^◌, ◌<◌, ◌≤◌, true, ◌⊎◌, List, [], ◌∷◌, length, ℤ, pos, negsuc, ◌+ℤ◌, Some, Option, int_le, unsigned_abs}
+use Rattle.std.proofs.Common.{ap, subst, arith, add-mul, mul-le-mul_right}
 use Rattle.std.proofs.Math.IntN.{+ℤ_assoc, +ℤ_comm, +ℤ_idl}
 use Rattle.std.specs.Int.{saturate_to_bits}
 use Rattle.std.specs.List.{AllByRecursion}
-use Rattle.std.proofs.ByRecursion.{All-weaker}
 use Rattle.std.proofs.lemmas.Int.{ints}
 use Rattle.score.specs.Adding.{adding}
 use Rattle.score.specs.Model.{Laws, Entered, Of, Together, joined, exact_entries}

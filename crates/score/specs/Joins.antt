@@ -1,5 +1,5 @@
 -- Scores joined one after the other, within the entries that a kind joins exactly. Assumes nothing.
-use Rattle.std.specs.Prelude.{◌≡◌, ℕ, ◌+◌, ◌-◌, ◌≤◌, List, [], ◌∷◌}
+use Rattle.std.specs.Prelude.{◌≡◌, ℕ, ◌-◌, ◌≤◌, List, [], ◌∷◌}
 use Rattle.score.specs.Model.{Model, Of, joined, exact_entries}
 
 -- these scores are together of m entries

@@ -1,5 +1,5 @@
 -- Two kinds, one above the other, and the kind "tiered": weights over any kind. Assumes nothing.
-use Rattle.std.specs.Prelude.{ℕ, Bool, true, false, cond, ◌&&◌, List, [], ◌∷◌, ℤ, pos, negsuc, ◌+ℤ◌, Some, None, codes, Option, int_le}
+use Rattle.std.specs.Prelude.{ℕ, Bool, true, cond, ◌&&◌, List, ℤ, pos, negsuc, ◌+ℤ◌, Some, None, codes, Option, int_le}
 use Rattle.std.specs.Int.{saturate_to_bits}
 use Rattle.std.specs.Fmt.{signed_decimal, option_append}
 use Rattle.score.specs.declared.tiers.Tiered.{Tiered}

@@ -1,5 +1,5 @@
 -- The kind "total". Assumes nothing.
-use Rattle.std.specs.Prelude.{ℕ, Bool, cond, ◌&&◌, ℤ, pos, negsuc, ◌+ℤ◌, ◌*ℤ◌, Some, None, Option, int_le, nat_le}
+use Rattle.std.specs.Prelude.{Bool, cond, ◌&&◌, ℤ, pos, negsuc, ◌+ℤ◌, ◌*ℤ◌, Some, None, Option, int_le, nat_le}
 use Rattle.std.specs.Int.{saturate_to_bits}
 use Rattle.score.specs.declared.totals.Access.{Access}
 use Rattle.score.specs.declared.totals.Total.{Total}

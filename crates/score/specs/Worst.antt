@@ -1,5 +1,5 @@
 -- The kind "worst margin". Assumes nothing.
-use Rattle.std.specs.Prelude.{ℕ, Bool, true, false, cond, ◌&&◌, List, ℤ, pos, negsuc, Some, None, codes, Option, int_le}
+use Rattle.std.specs.Prelude.{ℕ, Bool, true, false, cond, ◌&&◌, List, pos, negsuc, Some, None, codes, Option, int_le}
 use Rattle.std.specs.Int.{int_min}
 use Rattle.std.specs.Fmt.{signed_decimal}
 use Rattle.score.specs.declared.margins.Slack.{Slack}

@@ -7,7 +7,7 @@ use Rattle.std.proofs.lemmas.List.{length-set, length-take}
 use Rattle.std.proofs.lemmas.Bool.{eq-eqb, ne_eqb, eqb-false, both_ways, cond-false, or_parts, or_from, and_from}
 use Rattle.score.specs.Model.{Model, Laws, Together}
 use Rattle.score.specs.declared.choice.Choice.{Choice}
-use Rattle.steps.specs.Change.{choose, without, onto_base, onto_one, onto_two, onto_scores, own, both, with_one, with_two}
+use Rattle.steps.specs.Change.{choose, without, onto_one, onto_two, onto_scores, own, both, with_one, with_two}
 use Rattle.steps.specs.Counts.{JoinsExact}
 use Rattle.steps.specs.Sheet.{Sheet, remains, partners, degree, one_score, two_score}
 use Rattle.steps.specs.Start.{banks}

@@ -197,7 +197,11 @@ fn remove_all<K: Kind + Display>(
     )?;
     note(rt, &mut notes, remove_by_two(vars, pairs, &mut used, 1))?;
     note(rt, &mut notes, remove_by_one(vars, pairs, &mut used, 2))?;
-    note(rt, &mut notes, remove_alone(&mut base, vars, &pairs[..0], 3))?;
+    note(
+        rt,
+        &mut notes,
+        remove_alone(&mut base, vars, &pairs[..0], 3),
+    )?;
     println!(rt; "  base {base}, notes {}", notes.len())?;
     show_layout(rt, &notes)
 }

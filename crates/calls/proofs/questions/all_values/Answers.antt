@@ -1,6 +1,5 @@
-use Rattle.std.proofs.Common.{◌≡◌, true, false, ltb, get_or, drop, sym, ◌∙◌}
+use Rattle.std.proofs.Common.{◌≡◌, true, ltb, get_or, sym, ◌∙◌}
 use Rattle.std.proofs.lemmas.Bool.{lt-ltb, le-ltb, and_left}
-use Rattle.calls.specs.Questions.{all_values}
 use Rattle.calls.proofs.Values.{values_step, values_ended}
 use Rattle.calls.proofs.questions.all_values.Goals as goal
 

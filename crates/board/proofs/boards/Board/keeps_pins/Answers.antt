@@ -1,4 +1,4 @@
-use Rattle.std.proofs.Common.{◌≡◌, get_or, ap, ◌∙◌}
+use Rattle.std.proofs.Common.{get_or, ap, ◌∙◌}
 use Rattle.calls.specs.Questions.{keeps_pin}
 use Rattle.board.specs.Tables.{held, records_view}
 use Rattle.board.proofs.Joining.{pins_broken, pins_more, pins_ended}

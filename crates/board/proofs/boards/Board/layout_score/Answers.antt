@@ -1,4 +1,4 @@
-use Rattle.std.proofs.Common.{[], sym, subst}
+use Rattle.std.proofs.Common.{[], subst}
 use Rattle.board.specs.Scoring.{JoinsOn, vars_at, pairs_at}
 use Rattle.board.specs.Tables.{held}
 use Rattle.board.proofs.Scores.{joined_all}

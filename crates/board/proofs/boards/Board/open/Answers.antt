@@ -1,5 +1,4 @@
 use Rattle.std.proofs.Common.{sym, ◌∙◌}
-use Rattle.board.specs.Tables.{held}
 use Rattle.board.proofs.Opens.{opens, refuses}
 use Rattle.board.proofs.boards.Board.open.Goals as goal
 

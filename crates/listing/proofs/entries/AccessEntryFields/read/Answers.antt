@@ -1,10 +1,9 @@
-use Rattle.std.proofs.Common.{◌≡◌, ◌+◌, [], ◌∷◌, Ok, sym, refl, ap, ◌∙◌, arith, w32, SFits, rules}
+use Rattle.std.proofs.Common.{◌≡◌, ◌+◌, [], ◌∷◌, Ok, refl, ap, ◌∙◌, arith, w32, SFits, rules}
 use Rattle.std.proofs.lemmas.Int.{to_z-of_z}
 use Rattle.fields.specs.Values.{value, signed_value}
 use Rattle.fields.specs.Forms.{natural, integer}
 use Rattle.listing.specs.Text.{fields}
 use Rattle.listing.specs.Lines.{text_of}
-use Rattle.listing.specs.Entries.{access_form}
 use Rattle.listing.proofs.EntryReading.{passed_on, is_field, read_no, read_yes, read_is}
 use Rattle.listing.proofs.entries.AccessEntryFields.read.Goals as goal
 

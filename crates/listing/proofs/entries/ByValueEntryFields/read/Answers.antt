@@ -1,4 +1,4 @@
-use Rattle.std.proofs.Common.{◌≡◌, ◌+◌, ◌^◌, ◌<◌, length, ap, ◌∙◌, arith, length-append}
+use Rattle.std.proofs.Common.{◌≡◌, ◌+◌, length, ap, ◌∙◌, arith, length-append}
 use Rattle.listing.specs.Text.{fields}
 use Rattle.listing.specs.Lines.{text_of}
 use Rattle.listing.specs.Entries.{entry_reply}

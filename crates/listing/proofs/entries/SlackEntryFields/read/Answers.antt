@@ -1,4 +1,4 @@
-use Rattle.std.proofs.Common.{◌≡◌, [], Ok, refl, ap, ◌∙◌, arith, w32, SFits, rules}
+use Rattle.std.proofs.Common.{[], Ok, refl, ap, ◌∙◌, arith, w32, SFits, rules}
 use Rattle.std.proofs.lemmas.Int.{to_z-of_z}
 use Rattle.fields.specs.Values.{signed_value}
 use Rattle.fields.specs.Forms.{integer}

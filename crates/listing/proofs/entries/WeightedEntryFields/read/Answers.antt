@@ -1,11 +1,10 @@
-use Rattle.std.proofs.Common.{◌≡◌, ◌+◌, ◌^◌, ◌<◌, length, Ok, Err, sym, refl, ap, ◌∙◌, arith, w32, SFits, rules}
+use Rattle.std.proofs.Common.{◌≡◌, ◌+◌, Ok, refl, ap, ◌∙◌, arith, w32, SFits, rules}
 use Rattle.std.proofs.lemmas.Int.{to_z-of_z}
-use Rattle.fields.specs.Values.{signed_value}
 use Rattle.fields.specs.Forms.{integer}
 use Rattle.listing.specs.Text.{fields}
 use Rattle.listing.specs.Lines.{text_of}
 use Rattle.listing.specs.Entries.{entry_reply}
-use Rattle.listing.proofs.EntryReading.{passed_on, is_field, read_no, read_yes, read_is, second_no, second_yes}
+use Rattle.listing.proofs.EntryReading.{passed_on, is_field, read_no, second_no, second_yes}
 use Rattle.listing.proofs.entries.WeightedEntryFields.read.Goals as goal
 
 pub returns-in_err-weight : goal.returns-in_err-weight

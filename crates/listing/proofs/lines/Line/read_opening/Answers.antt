@@ -1,4 +1,4 @@
-use Rattle.std.proofs.Common.{◌≡◌, ℕ, suc, length, Some, Ok, Err, sym, refl, ap, ◌∙◌, true-eqb, false-eqb}
+use Rattle.std.proofs.Common.{◌≡◌, length, Some, Ok, sym, ap, ◌∙◌, true-eqb, false-eqb}
 use Rattle.std.specs.Option.{option_map}
 use Rattle.fields.specs.declared.faults.LineFault.TheVariants.{Field}
 use Rattle.fields.specs.Questions.{replied}
