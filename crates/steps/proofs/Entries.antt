@@ -3,13 +3,13 @@ use Rattle.std.proofs.Common.{◌≡◌, ℕ, zero, suc, ◌+◌, ◌<◌, ◌�
 use mathlib.Core.Path.{fun_ext}
 use Rattle.std.proofs.lemmas.Bool.{ne_eqb}
 use Rattle.std.specs.Option.{option_map}
-use Rattle.score.specs.Model.{Model, Laws, Of, Together}
+use Rattle.score.specs.Model.{Model, Laws, Of, Together, exact_entries}
 use Rattle.score.proofs.Entries.{of_sum, of_none}
 use Rattle.steps.specs.Sheet.{Sheet, Sound, remains, over, numbers, one_score, two_score, pair, partners, degree, turned, count}
 use Rattle.steps.specs.Change.{Values, without, own, both, with_one, with_two, onto_base, onto_one, onto_two, onto_scores, onto_pair, choose, left_alone, left_one, left_two, left_set}
 use Rattle.steps.specs.Steps.{Note, Removal, leaves_alone, leaves_by_one, leaves_by_two}
 use Rattle.steps.specs.Start.{set_pin, pinned}
-use Rattle.steps.specs.Counts.{Single, single, OneOf, TwoOf, Counts, entries, Few, JoinsExact}
+use Rattle.steps.specs.Counts.{Single, single, OneOf, TwoOf, Counts, entries, Few, OfAll, JoinsExact}
 use Rattle.steps.proofs.Joins.{at_other, over_at}
 use Rattle.steps.proofs.Counting.{numbers_laws}
 use Rattle.steps.proofs.Sheets.{partner_remains, value_without, value_set}
@@ -192,11 +192,20 @@ module _ {c : Sheet Single ℕ} (sound : Sound c) where
       subst (λ o. two_score numbers o tt tt ≤ entries (without y c))
       (ap₂ (λ a b. cond (a || b) None (c.two x z)) (ne_eqb x y d) (ne_eqb z y e)) there
 
+-- Few enough, and of at most 1,024, are the same ----------------------------------------------------------------------------------
+
+module _ {E S V : Type 0} {M : Model E S} {s : Sheet V S} where
+  pub all_of_few : Few M s → OfAll M exact_entries s
+  all_of_few f = record { counts = f.counts; counted = f.counted; within = f.within }
+
+  pub few_of_all : OfAll M exact_entries s → Few M s
+  few_of_all f = record { counts = f.counts; counted = f.counted; within = f.within }
+
 -- Every join of a step is exact ----------------------------------------------------------------------------------------------------
 
-module _ {E S V : Type 0} {M : Model E S} (laws : Laws M) {s : Sheet V S} (sound : Sound s) (f : Few M s) where
-  pub joins_exact : JoinsExact M s
-  joins_exact = record {
+module _ {E S V : Type 0} {M : Model E S} (laws : Laws M) {s : Sheet V S} (sound : Sound s) {m : ℕ} (f : OfAll M m s) where
+  pub joins_exact : m ≤ exact_entries → JoinsExact M s
+  joins_exact most = record {
     onto_base = λ y w h. together _ _ f.counted.base_of (own_of laws k y w) (base_own sound_c y (below y h));
     with_pair = λ y x w u p.
         together _ _ (own_of laws k y w) (both_of laws k y x w u) (own_both sound_c y x (first y x p) (second y x p));
@@ -232,14 +241,14 @@ module _ {E S V : Type 0} {M : Model E S} (laws : Laws M) {s : Sheet V S} (sound
 
       together : {a b : S} (m n : ℕ) → Of M m a → Of M n b → m + n ≤ entries f.counts → Together M a b
       together m n p q h =
-          record { left = m; right = n; within = omega (arith, h, f.within); of_left = p; of_right = q }
+          record { left = m; right = n; within = omega (arith, h, f.within, most); of_left = p; of_right = q }
 
   -- No step makes the entries more -------------------------------------------------------------------------------------------------
 
-  few_by : {s' : Sheet V S} (c' : Sheet Single ℕ) → Counts M c' s' → entries f.counts ≡ entries c' → Few M s'
+  few_by : {s' : Sheet V S} (c' : Sheet Single ℕ) → Counts M c' s' → entries f.counts ≡ entries c' → OfAll M m s'
   few_by c' k e = record { counts = c'; counted = k; within = omega (arith, e, f.within) }
 
-  pub removal_few : {vs : Values V} {m : Note V} {s' : Sheet V S} → Removal M vs s m s' → Few M s'
+  pub removal_few : {vs : Values V} {n : Note V} {s' : Sheet V S} → Removal M vs s n s' → OfAll M m s'
   removal_few {vs} (leaves_alone y h) =
       let k = f.counted in
       few_by (left_alone numbers single y f.counts)
@@ -259,17 +268,17 @@ module _ {E S V : Type 0} {M : Model E S} (laws : Laws M) {s : Sheet V S} (sound
       ((two_keeps numbers_laws single (counted_sound laws k sound) y (counted_remains laws k y ∙ h.there) x z
       (counted_degree laws k y ∙ h.partners_are) (counted_partners laws k y x ∙ p) (counted_partners laws k y z ∙ q) o).attained (λ _. tt))
 
-  pub set_few : (y : ℕ) → y < s.size → (u : V) → Few M (left_set M y u s)
+  pub set_few : (y : ℕ) → y < s.size → (u : V) → OfAll M m (left_set M y u s)
   set_few y h u =
       few_by (left_set numbers y tt f.counts) (set_counts laws f.counted y u)
       (sym (value_set numbers_laws (counted_sound laws f.counted sound) y (subst (λ n. y < n) (sym f.counted.size_is) h) tt (λ _. tt)))
 
-module _ {E S V : Type 0} {M : Model E S} (laws : Laws M) (pins : ℕ → Option V) {s : Sheet V S} (sound : Sound s) (f : Few M s) where
-  pub pinned_few : (k : ℕ) → k ≤ s.size → Few M (pinned M pins k s)
+module _ {E S V : Type 0} {M : Model E S} (laws : Laws M) (pins : ℕ → Option V) {s : Sheet V S} (sound : Sound s) {m : ℕ} (f : OfAll M m s) where
+  pub pinned_few : (k : ℕ) → k ≤ s.size → OfAll M m (pinned M pins k s)
   pinned_few zero h = f
   pinned_few (suc k) h = step (pins k) (pinned_few k (omega arith))
     where
-      step : (o : Option V) → Few M (pinned M pins k s) → Few M (set_pin M k o (pinned M pins k s))
+      step : (o : Option V) → OfAll M m (pinned M pins k s) → OfAll M m (set_pin M k o (pinned M pins k s))
       step None ih = ih
       step (Some u) ih =
           set_few laws (pinned_sound M pins s sound k) ih k (subst (λ n. k < n) (sym (pinned_size M pins s k)) h) u

@@ -1,10 +1,10 @@
 -- What the steps do, as statements: each is proved for every score kind. Assumes nothing.
 use Rattle.std.specs.Prelude.{◌≡◌, ℕ, ◌+◌, ◌-◌, ◌*◌, ◌^◌, ◌<◌, ◌≤◌, Bool, true, cond, ◌⊎◌, List, length, is_some, Some, None, Option}
-use Rattle.score.specs.Model.{Model, better}
+use Rattle.score.specs.Model.{Model, better, exact_entries}
 use Rattle.steps.specs.Sheet.{Sheet, Sound, remains, over, two_score, value, put, busy}
 use Rattle.steps.specs.Change.{Values, choose, left_set}
 use Rattle.steps.specs.Start.{banks, unpinned, pinned, start, start_notes, pinned_at_once, with_pins, Keeps, board_busy}
-use Rattle.steps.specs.Counts.{Few, JoinsExact}
+use Rattle.steps.specs.Counts.{Few, OfAll, JoinsExact}
 use Rattle.steps.specs.Steps.{Note, taken, read, Removal, Held, holding, whole, Explored}
 
 -- Removals -------------------------------------------------------------------------------------------------------------------------
@@ -146,3 +146,15 @@ pub record EntriesKept {E S V : Type 0} (M : Model E S) (s : Sheet V S) : Type 0
 
 abbrev pub EntriesStand : {E S : Type 0} → Model E S → Type 0 → Type 0
 EntriesStand {S = S} M V = (s : Sheet V S) → Sound s → Few M s → EntriesKept M s
+
+-- A sheet of m entries stays one of m entries after every step: no step makes the total grow. If m is at most 1,024, every
+-- join that a step makes is exact.
+pub record TotalKept {E S V : Type 0} (M : Model E S) (m : ℕ) (s : Sheet V S) : Type 0 where
+  pub exact : m ≤ exact_entries → JoinsExact M s
+  pub after_removal : (vs : Values V) (n : Note V) (s' : Sheet V S) → Removal M vs s n s' → OfAll M m s'
+  pub after_setting : (y : ℕ) (c : V) → remains s y ≡ true → OfAll M m (left_set M y c s)
+  -- however many of the pins are set
+  pub after_pins : (pins : ℕ → Option V) (k : ℕ) → k ≤ s.size → OfAll M m (pinned M pins k s)
+
+abbrev pub TotalsStand : {E S : Type 0} → Model E S → Type 0 → Type 0
+TotalsStand {S = S} M V = (s : Sheet V S) (m : ℕ) → Sound s → OfAll M m s → TotalKept M m s

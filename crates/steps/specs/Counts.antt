@@ -42,6 +42,12 @@ pub record Few {E S V : Type 0} (M : Model E S) (s : Sheet V S) : Type 0 where
   pub counted : Counts M counts s
   pub within : entries counts ≤ exact_entries
 
+-- the sheet is of m entries or fewer, all together
+pub record OfAll {E S V : Type 0} (M : Model E S) (m : ℕ) (s : Sheet V S) : Type 0 where
+  pub counts : Sheet Single ℕ
+  pub counted : Counts M counts s
+  pub within : entries counts ≤ m
+
 -- Every join that a step makes is of at most that many.
 pub record JoinsExact {E S V : Type 0} (M : Model E S) (s : Sheet V S) : Type 0 where
   -- y's score onto the base

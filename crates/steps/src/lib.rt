@@ -6,7 +6,7 @@
 
 ghost use Rattle.std.specs.Prelude.{◌^◌, Bool, true, false};
 ghost use Rattle.steps.specs.Examples.{Examples};
-ghost use Rattle.steps.specs.Claims.{RemovalsKeepBest, SettingStands, ExploredGreatest, ExploredOnce, ExploredAlways, SplitsBounded, BankSplitsWithin, StartStands, StartAtOnce, SolveStands, UnpinnedStands, BanksChoose, EntriesStand};
+ghost use Rattle.steps.specs.Claims.{RemovalsKeepBest, SettingStands, ExploredGreatest, ExploredOnce, ExploredAlways, SplitsBounded, BankSplitsWithin, StartStands, StartAtOnce, SolveStands, UnpinnedStands, BanksChoose, EntriesStand, TotalsStand};
 
 use score::interface::Kind;
 
@@ -84,7 +84,8 @@ pub fn banks_choose<K: Kind>() -> u8
 
 // No step makes a worksheet of more entries, and within 1,024 every join of a step is exact.
 pub fn entries_stand<K: Kind>() -> u8
-    ensures { EntriesStand K.Kind.model Bool }
+    ensures few { EntriesStand K.Kind.model Bool }
+    ensures total { TotalsStand K.Kind.model Bool }
 {
     0
 }
