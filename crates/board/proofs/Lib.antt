@@ -1,5 +1,4 @@
 pub mod Answered
-pub mod Asks
 pub mod Joining
 pub mod Opens
 pub mod Pairs

@@ -1,6 +1,7 @@
 // The board over lent records.
 mod changing;
 mod opening;
+mod questions;
 mod reading;
 mod scoring;
 mod sending;

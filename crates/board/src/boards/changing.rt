@@ -7,8 +7,6 @@ ghost use Rattle.board.specs.Tables.{held, records_view, set_pin};
 
 use super::Board;
 use calls::changes::Four;
-use calls::entries::{score_four, score_two};
-use calls::questions::{ask_back, ask_free, ask_one, ask_pair, ask_pin};
 use calls::refusals::Refusal;
 use score::interface::Kind;
 
@@ -17,7 +15,7 @@ impl<'a, K: Kind> Board<'a, K> {
     pub fn one(&mut self, v: u32, zero: K::Entry, one: K::Entry) -> Result<(), Refusal>
         ensures { Changed K.Kind.model K.Kind.means (held self.old) (held self.new) (One v zero one) result }
     {
-        let post = ask_one(self.n, self.standing, v, score_two::<K>(zero, one))?;
+        let post = self.check_one(v, zero, one)?;
         self.join_one(v as usize, post.zero, post.one);
         Ok(())
     }
@@ -26,19 +24,13 @@ impl<'a, K: Kind> Board<'a, K> {
     pub fn pair(&mut self, a: u32, b: u32, entries: Four<K::Entry>) -> Result<(), Refusal>
         ensures { Changed K.Kind.model K.Kind.means (held self.old) (held self.new) (Pair a b entries) result }
     {
-        let low = a.min(b);
-        let high = a.max(b);
-        let place = self.find(low, high);
-        let scores = ask_pair(
-            self.n,
-            self.standing,
-            self.kept,
-            a,
-            b,
-            score_four::<K>(entries),
-            place.is_some(),
-        )?;
-        self.join_pair(low, high, scores.lower_first(a, b), place);
+        let post = self.check_pair(a, b, entries)?;
+        self.join_pair(
+            a.min(b),
+            a.max(b),
+            post.scores.lower_first(a, b),
+            post.place,
+        );
         Ok(())
     }
 
@@ -46,15 +38,9 @@ impl<'a, K: Kind> Board<'a, K> {
     pub fn pin(&mut self, v: u32, value: u32) -> Result<(), Refusal>
         ensures { Changed K.Kind.model K.Kind.means (held self.old) (held self.new) (Pin v value) result }
     {
-        ask_pin(self.n, self.standing, v, value, self.pin_of(v as usize))?;
+        self.check_pin(v, value)?;
         self.set_pin(v as usize, Some(value == 1));
         Ok(())
-    }
-
-    fn check_free(&self, v: u32) -> Result<(), Refusal>
-        ensures { refusal_in result ≡ first_no (change_questions K.Kind.model (records_view (held self.now)) (Free v)) }
-    {
-        ask_free(self.n, self.standing, v, self.pin_of(v as usize))
     }
 
     // Nothing is written before every question has said yes.
@@ -78,7 +64,7 @@ impl<'a, K: Kind> Board<'a, K> {
     pub fn back(&mut self) -> Result<(), Refusal>
         ensures { TakenBack K.Kind.model K.Kind.means (held self.old) (held self.new) result }
     {
-        ask_back(self.standing)?;
+        self.check_back()?;
         self.take_back();
         Ok(())
     }

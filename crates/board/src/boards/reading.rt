@@ -1,7 +1,7 @@
 // Reading a board's records, at any index.
-ghost use Rattle.std.specs.Prelude.{◌≡◌};
+ghost use Rattle.std.specs.Prelude.{◌≡◌, take};
 ghost use Rattle.std.specs.List.{slice_get};
-ghost use Rattle.board.specs.Tables.{held, records_view, used, Place};
+ghost use Rattle.board.specs.Tables.{held, records_view, Place};
 
 use super::Board;
 use records::access::{first, read};
@@ -33,11 +33,11 @@ impl<'a, K: Copy> Board<'a, K> {
     {
         self.var_at(v)?.pin
     }
+}
 
-    // Where the pair of two variables stands among the kept ones.
-    pub(super) fn find(&self, low: u32, high: u32) -> Option<usize>
-        ensures { Place (low, high) (used (held self.now)) result }
-    {
-        place_of(first(self.pairs, self.kept), low, high)
-    }
+// Where the pair of two variables stands among the first `used` records.
+pub(super) fn find<K: Copy>(pairs: &[Pair<K>], used: usize, low: u32, high: u32) -> Option<usize>
+    ensures { Place (low, high) (take used pairs.now) result }
+{
+    place_of(first(pairs, used), low, high)
 }

@@ -1,0 +1,73 @@
+// The questions before a change, put to the records.
+ghost use Rattle.std.specs.Prelude.{◌≡◌, IfOk, Some};
+ghost use Rattle.calls.specs.Entries.{FourScored};
+ghost use Rattle.calls.specs.Questions.{first_no, refusal_in, change_questions, back_questions};
+ghost use Rattle.calls.specs.Standing.{key};
+ghost use Rattle.calls.specs.declared.changes.Change.TheVariants.{One, Pair, Pin, Free};
+ghost use Rattle.board.specs.Tables.{held, records_view, used, Place};
+
+use super::Board;
+use super::reading::find;
+use calls::changes::Four;
+use calls::entries::{Two, score_four, score_two};
+use calls::questions::{ask_back, ask_free, ask_one, ask_pair, ask_pin};
+use calls::refusals::Refusal;
+use score::interface::Kind;
+
+// The scores of a post onto a pair, as posted, and where the pair stands if it is kept.
+#[derive(Clone, Copy)]
+pub(super) struct PairPost<K> {
+    pub scores: Four<K>,
+    pub place: Option<usize>,
+}
+
+impl<'a, K: Kind> Board<'a, K> {
+    pub(super) fn check_one(&self, v: u32, zero: K::Entry, one: K::Entry) -> Result<Two<K>, Refusal>
+        ensures reply { refusal_in result ≡ first_no (change_questions K.Kind.model (records_view (held self.now)) (One v zero one)) }
+        ensures zero { IfOk result (λ s. K.Kind.model.score zero ≡ Some (K.Kind.means s.zero)) }
+        ensures one { IfOk result (λ s. K.Kind.model.score one ≡ Some (K.Kind.means s.one)) }
+    {
+        ask_one(self.n, self.standing, v, score_two::<K>(zero, one))
+    }
+
+    pub(super) fn check_pair(
+        &self,
+        a: u32,
+        b: u32,
+        entries: Four<K::Entry>,
+    ) -> Result<PairPost<K>, Refusal>
+        ensures reply { refusal_in result ≡ first_no (change_questions K.Kind.model (records_view (held self.now)) (Pair a b entries)) }
+        ensures scores { IfOk result (λ p. FourScored K.Kind.model K.Kind.means entries p.scores) }
+        ensures place { IfOk result (λ p. Place (key a b) (used (held self.now)) p.place) }
+    {
+        let place = find(self.pairs, self.kept, a.min(b), a.max(b));
+        let scores = ask_pair(
+            self.n,
+            self.standing,
+            self.kept,
+            a,
+            b,
+            score_four::<K>(entries),
+            place.is_some(),
+        )?;
+        Ok(PairPost { scores, place })
+    }
+
+    pub(super) fn check_pin(&self, v: u32, value: u32) -> Result<(), Refusal>
+        ensures { refusal_in result ≡ first_no (change_questions K.Kind.model (records_view (held self.now)) (Pin v value)) }
+    {
+        ask_pin(self.n, self.standing, v, value, self.pin_of(v as usize))
+    }
+
+    pub(super) fn check_free(&self, v: u32) -> Result<(), Refusal>
+        ensures { refusal_in result ≡ first_no (change_questions K.Kind.model (records_view (held self.now)) (Free v)) }
+    {
+        ask_free(self.n, self.standing, v, self.pin_of(v as usize))
+    }
+
+    pub(super) fn check_back(&self) -> Result<(), Refusal>
+        ensures { refusal_in result ≡ first_no (back_questions (records_view (held self.now))) }
+    {
+        ask_back(self.standing)
+    }
+}
