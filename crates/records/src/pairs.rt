@@ -1,6 +1,7 @@
 // A pair of variables, and what it says of either.
 ghost use Rattle.std.specs.Prelude.{◌≡◌};
-ghost use Rattle.records.specs.Pairs.{is_pair, touches, link_of, joined_pair, UnusedPair, place};
+ghost use Rattle.calls.specs.Standing.{same_key};
+ghost use Rattle.records.specs.Pairs.{touches, link_of, joined_pair, UnusedPair, place};
 
 use calls::changes::Four;
 use score::interface::Kind;
@@ -20,10 +21,10 @@ pub struct Link<K> {
     pub scores: Four<K>,
 }
 
-impl<K: Copy> Pair<K> {
+impl<K> Pair<K> {
     // Whether it is the pair of these two.
     pub fn is_of(&self, low: u32, high: u32) -> bool
-        ensures { result ≡ is_pair low high self.now }
+        ensures { result ≡ same_key (low, high) (self.now.low, self.now.high) }
     {
         low == self.low && high == self.high
     }
@@ -34,7 +35,9 @@ impl<K: Copy> Pair<K> {
     {
         self.low == y || self.high == y
     }
+}
 
+impl<K: Copy> Pair<K> {
     // What the pair says of the variable, if it is one of the two.
     pub fn link_of(&self, y: u32) -> Option<Link<K>>
         ensures { result ≡ link_of y self.now }
