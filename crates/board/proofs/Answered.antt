@@ -5,13 +5,14 @@ use Rattle.std.proofs.lemmas.Bool.{ltb-true, true≢false, false≢true}
 use Rattle.score.specs.Model.{Model, Laws, Together}
 use Rattle.calls.specs.declared.changes.Change.{Change}
 use Rattle.calls.specs.declared.changes.Change.TheVariants.{One, Pair as PairPost, Pin, Free}
-use Rattle.calls.specs.declared.changes.Four.{Four}
+use Rattle.score.specs.declared.values.Four.{Four}
 use Rattle.calls.specs.declared.refusals.Refusal.{Refusal}
 use Rattle.calls.specs.declared.refusals.Refusal.TheVariants.{NoChange}
 use Rattle.calls.specs.Entries.{FourScored}
 use Rattle.calls.specs.Questions.{View, Question, view_of, first_no, refusal_in, change_questions, back_questions, most_pairs}
 use Rattle.calls.specs.Runs.{without_last}
-use Rattle.calls.specs.Standing.{Standing, more, count, kept_pairs, key, has_key, lower_first}
+use Rattle.calls.specs.Standing.{Standing, more, count, kept_pairs, key, has_key}
+use Rattle.score.specs.Values.{lower_first}
 use Rattle.calls.proofs.Asked.{all_yes, one_passed, pair_passed}
 use Rattle.records.specs.declared.variables.Var.{Var}
 use Rattle.records.specs.declared.history.Was.TheVariants.{Var as WasVar, Pair as WasPair, Unkept}

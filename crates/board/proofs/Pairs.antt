@@ -6,10 +6,11 @@ use Rattle.std.proofs.lemmas.List.{length-set, length-take, map_push, take_more_
 use Rattle.std.proofs.lemmas.Bool.{cond-true, cond-false}
 use Rattle.score.specs.Model.{Model, Laws, Together}
 use Rattle.calls.specs.declared.changes.Change.TheVariants.{Pair as PairPost}
-use Rattle.calls.specs.declared.changes.Four.{Four}
+use Rattle.score.specs.declared.values.Four.{Four}
 use Rattle.calls.specs.Entries.{FourScored}
 use Rattle.calls.specs.Questions.{view_of, first_no, change_questions, most_changes}
-use Rattle.calls.specs.Standing.{Standing, more, count, kept_pairs, at_four, turned_four, posted_at, pair_score, score_of, key, same_key, has_key, how_many, lower_first}
+use Rattle.calls.specs.Standing.{Standing, more, count, kept_pairs, posted_at, pair_score, score_of, key, same_key, has_key, how_many}
+use Rattle.score.specs.Values.{at_four, turned_four, lower_first}
 use Rattle.calls.proofs.Asked.{pair_passed}
 use Rattle.calls.proofs.Counts.{pair_of_count}
 use Rattle.calls.proofs.OverPosts.{same_key_refl, kept_once, unkept_neutral}

@@ -3,7 +3,7 @@ use Rattle.std.specs.Prelude.{ℕ, suc, List, [], ◌∷◌, ◌++◌, map}
 use Rattle.score.specs.Joins.{Joining}
 use Rattle.score.specs.Model.{Model}
 use Rattle.calls.specs.Runs.{values}
-use Rattle.calls.specs.Standing.{at_four}
+use Rattle.score.specs.Values.{at_four}
 use Rattle.records.specs.declared.pairs.Pair.{Pair}
 use Rattle.records.specs.declared.variables.Var.{Var}
 use Rattle.records.specs.Variables.{var_at}

@@ -6,7 +6,8 @@ use Rattle.calls.specs.declared.changes.Change.{Change}
 use Rattle.calls.specs.declared.refusals.Refusal.{Refusal}
 use Rattle.calls.specs.Posts.{Valid}
 use Rattle.calls.specs.Questions.{View, Question, view_of, first_no, refusal_in, change_questions, back_questions, score_questions, most_variables, most_pairs, most_changes}
-use Rattle.calls.specs.Standing.{Standing, fresh, more, count, at_four, kept_pairs, pin_of, one_score, pair_score, layout_score}
+use Rattle.calls.specs.Standing.{Standing, fresh, more, count, kept_pairs, pin_of, one_score, pair_score, layout_score}
+use Rattle.score.specs.Values.{at_four}
 use Rattle.calls.specs.Runs.{without_last, values}
 use Rattle.records.specs.declared.pairs.Pair.{Pair}
 use Rattle.records.specs.declared.history.Undo.{Undo}

@@ -1,7 +1,7 @@
 -- What a board's memory holds, and how a call changes it. Assumes nothing.
 use Rattle.std.specs.Prelude.{◌≡◌, ℕ, suc, ◌-◌, Bool, true, false, List, map, take, Some, None, Option, slice_set}
 use Rattle.std.specs.List.{slice_get}
-use Rattle.calls.specs.declared.changes.Four.{Four}
+use Rattle.score.specs.declared.values.Four.{Four}
 use Rattle.calls.specs.Questions.{View}
 use Rattle.calls.specs.Standing.{has_key}
 use Rattle.records.specs.Pairs.{joined_pair}

@@ -1,6 +1,6 @@
 // Each test opens a board over memory of its own.
 use board::boards::Board;
-use calls::changes::Four;
+use score::values::Four;
 use calls::refusals::Refusal;
 use records::history::Undo;
 use records::pairs::Pair;

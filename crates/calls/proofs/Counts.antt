@@ -7,10 +7,11 @@ use Rattle.score.specs.Joins.{Within}
 use Rattle.score.specs.Model.{Model, Laws, Of, joined, exact_entries}
 use Rattle.score.proofs.Entries.{of_none, of_one, of_sum, of_fewer, joined_append}
 use Rattle.calls.specs.declared.changes.Change.TheVariants.{One, Pair, Pin, Free}
-use Rattle.calls.specs.declared.changes.Four.{Four}
+use Rattle.score.specs.declared.values.Four.{Four}
 use Rattle.calls.specs.Posts.{Valid, selected}
 use Rattle.calls.specs.Questions.{view_of, takes, takes_four}
-use Rattle.calls.specs.Standing.{Standing, fresh, more, count, at_four, posted_at, score_of, one_score, pair_score, key, same_key, kept_pairs, variables}
+use Rattle.calls.specs.Standing.{Standing, fresh, more, count, posted_at, score_of, one_score, pair_score, key, same_key, kept_pairs, variables}
+use Rattle.score.specs.Values.{at_four}
 use Rattle.calls.proofs.Asked.{one_passed, pair_passed, change_room}
 use Rattle.calls.proofs.OverPosts.{over_posts_within, valid_in_range}
 

@@ -2,4 +2,3 @@ pub mod Asked
 pub mod Counts
 pub mod OverPosts
 pub mod Striking
-mod Values

@@ -6,10 +6,11 @@ use Rattle.std.proofs.lemmas.Bool.Decides.{nat_tests}
 use Rattle.score.specs.Model.{Model, Laws, joined}
 use Rattle.score.proofs.Entries.{joined_append, unit_right}
 use Rattle.calls.specs.declared.changes.Change.TheVariants.{One, Pair, Pin, Free}
-use Rattle.calls.specs.declared.changes.Four.{Four}
+use Rattle.score.specs.declared.values.Four.{Four}
 use Rattle.calls.specs.Posts.{Valid, selected, OverPosts}
 use Rattle.calls.specs.Questions.{view_of}
-use Rattle.calls.specs.Standing.{Standing, fresh, more, at_four, posted_at, score_of, one_score, pair_score, key, same_key, has_key, kept_pairs, variables, layout_score, how_many}
+use Rattle.calls.specs.Standing.{Standing, fresh, more, posted_at, score_of, one_score, pair_score, key, same_key, has_key, kept_pairs, variables, layout_score, how_many}
+use Rattle.score.specs.Values.{at_four}
 use Rattle.calls.proofs.Asked.{one_passed}
 
 or_false : (a : Bool) → (a || false) ≡ a

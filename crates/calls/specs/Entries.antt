@@ -1,10 +1,10 @@
 -- The scores of the entries that are posted. Assumes nothing.
 use Rattle.std.specs.Prelude.{◌≡◌, Bool, true, false, ◌&&◌, Some, None, Option}
 use Rattle.score.specs.Model.{Model}
-use Rattle.calls.specs.declared.changes.Four.{Four}
-use Rattle.calls.specs.declared.entries.Two.{Two}
+use Rattle.score.specs.declared.values.Four.{Four}
+use Rattle.score.specs.declared.values.Two.{Two}
 use Rattle.calls.specs.Questions.{takes, takes_four}
-use Rattle.calls.specs.Standing.{at_four}
+use Rattle.score.specs.Values.{at_four}
 
 module _ {E S K : Type 0} (M : Model E S) (means : K → S) where
   -- two entries have these scores

@@ -3,7 +3,8 @@ use Rattle.std.specs.Prelude.{◌≡◌, ℕ, Bool, cond, List, [], ◌∷◌, N
 use Rattle.score.specs.Model.{Model, joined}
 use Rattle.calls.specs.declared.changes.Change.TheVariants.{One, Pair, Pin, Free}
 use Rattle.calls.specs.Questions.{view_of, first_no, change_questions}
-use Rattle.calls.specs.Standing.{Standing, fresh, more, at_four, score_of, layout_score}
+use Rattle.calls.specs.Standing.{Standing, fresh, more, score_of, layout_score}
+use Rattle.score.specs.Values.{at_four}
 
 -- each change was accepted when it came
 abbrev pub Valid : {E S : Type 0} → Model E S → ℕ → Standing E → Type 0

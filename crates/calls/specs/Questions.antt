@@ -1,9 +1,10 @@
 -- The questions that are put before a call; the first "no" turns it down. Assumes nothing.
 use Rattle.std.specs.Prelude.{ℕ, suc, Bool, true, false, cond, not, ◌&&◌, ◌||◌, List, [], ◌∷◌, length, is_some, Some, None, Ok, Err, Option, Result, ◌==◌, nat_le, nat_lt}
+use Rattle.std.specs.List.{list_all}
 use Rattle.score.specs.Model.{Model}
 use Rattle.calls.specs.declared.changes.Change.{Change}
 use Rattle.calls.specs.declared.changes.Change.TheVariants.{One, Pair, Pin, Free}
-use Rattle.calls.specs.declared.changes.Four.{Four}
+use Rattle.score.specs.declared.values.Four.{Four}
 use Rattle.calls.specs.declared.refusals.Refusal.{Refusal}
 use Rattle.calls.specs.declared.refusals.Refusal.TheVariants.{Variables, Memory, LayoutLength, NoVariable, SameVariable, Value, Entry, Pinned, NotPinned, NoChange, PinBroken, HistoryFull, PairsFull}
 use Rattle.calls.specs.Standing.{Standing, count, kept_pairs, pin_of, key, has_key}
@@ -90,41 +91,21 @@ free_questions n standing v pin =
     ∷ []
 
 abbrev pub change_questions : {E S : Type 0} → Model E S → View → Change E → List Question
-change_questions M w (One v z o) =
-    (nat_lt v w.n, NoVariable)
-    ∷ (takes M z && takes M o, Entry)
-    ∷ (nat_lt w.standing most_changes, HistoryFull)
-    ∷ []
-change_questions M w (Pair a b es) =
-    (nat_lt a w.n && nat_lt b w.n, NoVariable)
-    ∷ (not (a == b), SameVariable)
-    ∷ (takes_four M es, Entry)
-    ∷ (nat_lt w.standing most_changes, HistoryFull)
-    ∷ (has_key (key a b) w.keys || nat_lt w.kept most_pairs, PairsFull)
-    ∷ []
-change_questions M w (Pin v x) =
-    (nat_lt v w.n, NoVariable)
-    ∷ (nat_lt x 2, Value)
-    ∷ (not (is_some (w.pin v)), Pinned)
-    ∷ (nat_lt w.standing most_changes, HistoryFull)
-    ∷ []
-change_questions M w (Free v) =
-    (nat_lt v w.n, NoVariable)
-    ∷ (is_some (w.pin v), NotPinned)
-    ∷ (nat_lt w.standing most_changes, HistoryFull)
-    ∷ []
+change_questions M w (One v z o) = one_questions w.n w.standing v (takes M z && takes M o)
+change_questions M w (Pair a b es) = pair_questions w.n w.standing w.kept a b (takes_four M es) (has_key (key a b) w.keys)
+change_questions M w (Pin v x) = pin_questions w.n w.standing v x (w.pin v)
+change_questions M w (Free v) = free_questions w.n w.standing v (w.pin v)
 
 -- back: the standing changes
 abbrev pub taking_back_questions : ℕ → List Question
 taking_back_questions standing = (nat_lt 0 standing, NoChange) ∷ []
 
 abbrev pub back_questions : View → List Question
-back_questions w = (nat_lt 0 w.standing, NoChange) ∷ []
+back_questions w = taking_back_questions w.standing
 
 -- each byte of a layout is 0 or 1
 abbrev pub all_values : List ℕ → Bool
-all_values [] = true
-all_values (x ∷ xs) = nat_lt x 2 && all_values xs
+all_values layout = list_all (λ x. nat_lt x 2) layout
 
 -- a byte keeps a pin if there is none, or if it is the pin's value
 abbrev pub keeps_pin : Option Bool → ℕ → Bool
@@ -146,8 +127,4 @@ layout_questions n layout kept =
     ∷ []
 
 abbrev pub score_questions : View → List ℕ → List Question
-score_questions w layout =
-    ((length layout == w.n), LayoutLength)
-    ∷ (all_values layout, Value)
-    ∷ (keeps_pins w.pin 0 layout, PinBroken)
-    ∷ []
+score_questions w layout = layout_questions w.n layout (keeps_pins w.pin 0 layout)

@@ -1,10 +1,11 @@
 -- The standing changes of a board, and what they give: scores, kept pairs, pins, partners, busy variables. Assumes nothing.
-use Rattle.std.specs.Prelude.{ℕ, zero, suc, ◌+◌, min, max, Bool, true, false, cond, not, ◌&&◌, ◌||◌, List, [], ◌∷◌, ◌++◌, map, is_some, Some, None, Option, ◌==◌, nat_le, nat_lt}
+use Rattle.std.specs.Prelude.{ℕ, zero, suc, ◌+◌, min, max, Bool, false, cond, not, ◌&&◌, ◌||◌, List, [], ◌∷◌, ◌++◌, map, is_some, Some, None, Option, ◌==◌, nat_le, nat_lt}
 use Rattle.std.specs.Option.{unwrap_or}
 use Rattle.score.specs.Model.{Model, joined}
 use Rattle.calls.specs.declared.changes.Change.{Change}
 use Rattle.calls.specs.declared.changes.Change.TheVariants.{One, Pair, Pin, Free}
-use Rattle.calls.specs.declared.changes.Four.{Four}
+use Rattle.score.specs.declared.values.Four.{Four}
+use Rattle.score.specs.Values.{at_four}
 
 -- The list of standing changes: empty on a fresh board, a change goes on at its end.
 pub data Standing (E : Type 0) : Type 0 where
@@ -14,21 +15,6 @@ pub data Standing (E : Type 0) : Type 0 where
 abbrev pub count : {E : Type 0} → Standing E → ℕ
 count fresh = 0
 count (more cs c) = suc (count cs)
-
--- one of four, by the values of the first variable and of the second
-abbrev pub at_four : {T : Type 0} → Four T → Bool → Bool → T
-at_four f false false = f.at00
-at_four f false true = f.at01
-at_four f true false = f.at10
-at_four f true true = f.at11
-
--- the same four with the second variable first
-abbrev pub turned_four : {T : Type 0} → Four T → Four T
-turned_four f = record { at00 = f.at00; at01 = f.at10; at10 = f.at01; at11 = f.at11 }
-
--- as posted, or turned where the higher variable was named first
-abbrev pub lower_first : {T : Type 0} → ℕ → ℕ → Four T → Four T
-lower_first a b f = cond (nat_lt a b) f (turned_four f)
 
 -- two variables, the lower first
 abbrev pub key : ℕ → ℕ → ℕ × ℕ

@@ -2,15 +2,8 @@
 ghost use Rattle.std.specs.Prelude.{◌≡◌};
 ghost use Rattle.calls.specs.Entries.{TwoTaken, FourTaken};
 
-use crate::changes::Four;
 use score::interface::Kind;
-
-// The scores of a post onto a variable, at 0 and at 1.
-#[derive(Clone, Copy)]
-pub struct Two<T> {
-    pub zero: T,
-    pub one: T,
-}
+use score::values::{Four, Two};
 
 // The scores of two entries, or `None` where the kind does not take one of them.
 pub fn score_two<K: Kind>(zero: K::Entry, one: K::Entry) -> Option<Two<K>>

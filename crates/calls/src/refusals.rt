@@ -1,4 +1,4 @@
-// Why a call is turned down.
+// Why a call is turned down. Each case has its number.
 ghost use Rattle.std.specs.Prelude.{◌≡◌, Some};
 ghost use Rattle.calls.specs.Refusals.{refusal_number, refusal_text};
 
@@ -7,52 +7,38 @@ use std::fmt;
 #[derive(Clone, Copy)]
 pub enum Refusal {
     // a board has from 1 to 64 variables
-    Variables,
+    Variables = 1,
     // a memory is too short
-    Memory,
+    Memory = 2,
     // a layout has a byte for each variable
-    LayoutLength,
+    LayoutLength = 3,
     // no such variable
-    NoVariable,
+    NoVariable = 4,
     // a pair is of two different variables
-    SameVariable,
+    SameVariable = 5,
     // a value is 0 or 1
-    Value,
+    Value = 6,
     // the kind does not take an entry
-    Entry,
+    Entry = 7,
     // the variable is pinned already
-    Pinned,
+    Pinned = 8,
     // the variable is not pinned
-    NotPinned,
+    NotPinned = 9,
     // no change stands
-    NoChange,
+    NoChange = 10,
     // the layout does not keep a pin
-    PinBroken,
+    PinBroken = 11,
     // 1,024 changes stand
-    HistoryFull,
+    HistoryFull = 12,
     // 256 pairs are kept
-    PairsFull,
+    PairsFull = 13,
 }
 
 impl Refusal {
     pub fn number(self) -> u8
         ensures { result ≡ refusal_number self }
     {
-        match self {
-            Refusal::Variables => 1,
-            Refusal::Memory => 2,
-            Refusal::LayoutLength => 3,
-            Refusal::NoVariable => 4,
-            Refusal::SameVariable => 5,
-            Refusal::Value => 6,
-            Refusal::Entry => 7,
-            Refusal::Pinned => 8,
-            Refusal::NotPinned => 9,
-            Refusal::NoChange => 10,
-            Refusal::PinBroken => 11,
-            Refusal::HistoryFull => 12,
-            Refusal::PairsFull => 13,
-        }
+        self as u8
     }
 }
 
@@ -60,7 +46,6 @@ impl fmt::Display for Refusal {
     ghost output = { λ f. Some (refusal_text f) };
 
     fn fmt<W: fmt::Write>(&self, f: &mut fmt::Formatter<W>) -> fmt::Result {
-        let number = self.number();
-        write!(f, "no,{number}")
+        write!(f, "no,{}", self.number())
     }
 }

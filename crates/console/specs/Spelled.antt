@@ -3,7 +3,7 @@ use Rattle.std.specs.Prelude.{ℕ, ◌-◌, List, [], map}
 use Rattle.calls.specs.declared.changes.Call.{Call}
 use Rattle.calls.specs.declared.changes.Call.TheVariants.{Post, Back, Score}
 use Rattle.calls.specs.declared.changes.Change.TheVariants.{One, Pair, Pin, Free}
-use Rattle.calls.specs.declared.changes.Four.{Four}
+use Rattle.score.specs.declared.values.Four.{Four}
 use Rattle.listing.specs.declared.commands.Command.{Command}
 use Rattle.listing.specs.declared.commands.Command.TheVariants.{One as OneLine, Pair as PairLine, Pin as PinLine, Free as FreeLine, Back as BackLine, Score as ScoreLine}
 

@@ -9,7 +9,8 @@ ghost use Rattle.console.specs.Spelled.{call_of, layout_of, digit_value};
 
 use board::boards::Board;
 use calls::answers::Answer;
-use calls::changes::{Call, Change, Four};
+use calls::changes::{Call, Change};
+use score::values::Four;
 use calls::refusals::Refusal;
 use listing::commands::Command;
 use score::interface::Kind;

@@ -3,8 +3,8 @@ ghost use Rattle.std.specs.Prelude.{◌≡◌};
 ghost use Rattle.calls.specs.Standing.{same_key};
 ghost use Rattle.records.specs.Pairs.{touches, link_of, joined_pair, UnusedPair, place};
 
-use calls::changes::Four;
 use score::interface::Kind;
+use score::values::Four;
 
 // A pair, the lower variable first, and its scores.
 #[derive(Clone, Copy)]
@@ -26,7 +26,7 @@ impl<K> Pair<K> {
     pub fn is_of(&self, low: u32, high: u32) -> bool
         ensures { result ≡ same_key (low, high) (self.now.low, self.now.high) }
     {
-        low == self.low && high == self.high
+        (low, high) == (self.low, self.high)
     }
 
     // Whether the variable is one of the two.
@@ -66,12 +66,7 @@ impl<K: Kind> Pair<K> {
         Pair {
             low: 0,
             high: 0,
-            scores: Four {
-                at00: K::neutral(),
-                at01: K::neutral(),
-                at10: K::neutral(),
-                at11: K::neutral(),
-            },
+            scores: Four::neutral(),
         }
     }
 
@@ -80,14 +75,8 @@ impl<K: Kind> Pair<K> {
         ensures { result ≡ joined_pair K.Kind.held self scores }
     {
         Pair {
-            low: self.low,
-            high: self.high,
-            scores: Four {
-                at00: self.scores.at00.join(scores.at00),
-                at01: self.scores.at01.join(scores.at01),
-                at10: self.scores.at10.join(scores.at10),
-                at11: self.scores.at11.join(scores.at11),
-            },
+            scores: self.scores.joined(scores),
+            ..self
         }
     }
 }
@@ -96,10 +85,5 @@ impl<K: Kind> Pair<K> {
 pub fn place_of<K: Copy>(pairs: &[Pair<K>], low: u32, high: u32) -> Option<usize>
     ensures { result ≡ place low high pairs.now }
 {
-    for (i, pair) in pairs.iter().enumerate() {
-        if pair.is_of(low, high) {
-            return Some(i);
-        }
-    }
-    None
+    pairs.iter().position(|pair| pair.is_of(low, high))
 }

@@ -1,32 +1,22 @@
 // A variable of a board.
 ghost use Rattle.std.specs.Prelude.{◌≡◌};
-ghost use Rattle.records.specs.Variables.{Fresh, var_at, joined_var, with_pin};
+ghost use Rattle.records.specs.Variables.{Fresh, joined_var, with_pin};
 
 use score::interface::Kind;
+use score::values::Two;
 
-// Its scores at 0 and at 1, and the value that it is pinned at.
+// Its scores, and the value that it is pinned at.
 #[derive(Clone, Copy)]
 pub struct Var<K> {
-    pub zero: K,
-    pub one: K,
+    pub scores: Two<K>,
     pub pin: Option<bool>,
 }
 
 impl<K: Copy> Var<K> {
-    pub fn at(&self, one: bool) -> K
-        ensures { result ≡ var_at self.now one }
-    {
-        if one { self.one } else { self.zero }
-    }
-
     pub fn with_pin(self, pin: Option<bool>) -> Var<K>
         ensures { result ≡ with_pin self pin }
     {
-        Var {
-            zero: self.zero,
-            one: self.one,
-            pin,
-        }
+        Var { pin, ..self }
     }
 }
 
@@ -36,20 +26,18 @@ impl<K: Kind> Var<K> {
         ensures { Fresh K.Kind.model K.Kind.means result }
     {
         Var {
-            zero: K::neutral(),
-            one: K::neutral(),
+            scores: Two::neutral(),
             pin: None,
         }
     }
 
     // With two more scores joined on.
-    pub fn joined(self, zero: K, one: K) -> Var<K>
-        ensures { result ≡ joined_var K.Kind.held self zero one }
+    pub fn joined(self, scores: Two<K>) -> Var<K>
+        ensures { result ≡ joined_var K.Kind.held self scores }
     {
         Var {
-            zero: self.zero.join(zero),
-            one: self.one.join(one),
-            pin: self.pin,
+            scores: self.scores.joined(scores),
+            ..self
         }
     }
 }

@@ -10,3 +10,4 @@ pub mod Integers
 pub mod OneAboveAnother
 pub mod Limits
 pub mod TierEntries
+pub mod Values

@@ -5,22 +5,16 @@ ghost use Rattle.score.specs.Examples.{Examples, WorstFirstBreaks};
 use crate::interface::Kind;
 
 // Of every kind: how many entries the neutral score, an entry's score, a join and a choice are of.
-pub fn entry_counts_hold<K: Kind>() -> bool
+pub fn entry_counts_hold<K: Kind>()
     ensures { EntryLaws K.Kind.model }
-{
-    true
-}
+{}
 
 // The worked examples, on the definitions.
-pub fn examples_hold() -> bool
+pub fn examples_hold()
     ensures { Examples }
-{
-    true
-}
+{}
 
 // Why weights come first: worst margin above total would not keep the laws.
-pub fn worst_first_breaks() -> bool
+pub fn worst_first_breaks()
     ensures { WorstFirstBreaks }
-{
-    true
-}
+{}

@@ -10,3 +10,4 @@ pub mod margins;
 mod tests;
 pub mod tiers;
 pub mod totals;
+pub mod values;

@@ -12,11 +12,12 @@ pub struct Slack {
     pub margin: i32,
 }
 
-#[derive(Clone, Copy)]
+// In this order: the neutral score is above every margin.
+#[derive(Clone, Copy, PartialEq, Eq, PartialOrd, Ord)]
 pub enum Worst {
-    // above every margin: none was posted
-    Unlimited,
     Margin(i32),
+    // none was posted
+    Unlimited,
 }
 
 const MOST_MARGIN: i32 = 1_000_000_000;
@@ -43,26 +44,16 @@ impl Kind for Worst {
     }
 
     fn score(entry: Slack) -> Option<Worst> {
-        if entry.margin < LEAST_MARGIN || entry.margin > MOST_MARGIN {
-            return None;
-        }
-        Some(Worst::Margin(entry.margin))
+        let taken = (LEAST_MARGIN..=MOST_MARGIN).contains(&entry.margin);
+        taken.then_some(Worst::Margin(entry.margin))
     }
 
     fn join(self, other: Worst) -> Worst {
-        match (self, other) {
-            (Worst::Unlimited, score) => score,
-            (score, Worst::Unlimited) => score,
-            (Worst::Margin(a), Worst::Margin(b)) => Worst::Margin(a.min(b)),
-        }
+        self.min(other)
     }
 
     fn at_most(self, other: Worst) -> bool {
-        match (self, other) {
-            (_, Worst::Unlimited) => true,
-            (Worst::Unlimited, _) => false,
-            (Worst::Margin(a), Worst::Margin(b)) => a <= b,
-        }
+        self <= other
     }
 }
 

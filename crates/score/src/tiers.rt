@@ -51,7 +51,7 @@ impl<K: Kind> Kind for Tiered<K> {
     }
 
     fn score(entry: Weighted<K::Entry>) -> Option<Tiered<K>> {
-        if entry.weight < LEAST_WEIGHT || entry.weight > MOST_WEIGHT {
+        if !(LEAST_WEIGHT..=MOST_WEIGHT).contains(&entry.weight) {
             return None;
         }
         let second = K::score(entry.second)?;
@@ -82,8 +82,6 @@ impl<K: fmt::Display> fmt::Display for Tiered<K> {
     ghost output = { tiered_text K.Display.output };
 
     fn fmt<W: fmt::Write>(&self, f: &mut fmt::Formatter<W>) -> fmt::Result {
-        let weight = self.weight;
-        let second = &self.second;
-        write!(f, "{weight},{second}")
+        write!(f, "{},{}", self.weight, self.second)
     }
 }

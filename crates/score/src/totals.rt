@@ -15,7 +15,7 @@ pub struct Access {
     pub cycles: i32,
 }
 
-#[derive(Clone, Copy)]
+#[derive(Clone, Copy, PartialEq, Eq, PartialOrd, Ord)]
 pub struct Total {
     pub sum: i64,
 }
@@ -51,10 +51,8 @@ impl Kind for Total {
     }
 
     fn score(entry: Access) -> Option<Total> {
-        if entry.cycles < LEAST_CYCLES || entry.cycles > MOST_CYCLES {
-            return None;
-        }
-        Some(Total {
+        let taken = (LEAST_CYCLES..=MOST_CYCLES).contains(&entry.cycles);
+        taken.then(|| Total {
             sum: product(entry.hits, entry.cycles),
         })
     }
@@ -67,7 +65,7 @@ impl Kind for Total {
     }
 
     fn at_most(self, other: Total) -> bool {
-        self.sum <= other.sum
+        self <= other
     }
 }
 
@@ -75,7 +73,6 @@ impl fmt::Display for Total {
     ghost output = { λ s. Some (signed_decimal s.sum) };
 
     fn fmt<W: fmt::Write>(&self, f: &mut fmt::Formatter<W>) -> fmt::Result {
-        let sum = self.sum;
-        write!(f, "{sum}")
+        write!(f, "{}", self.sum)
     }
 }

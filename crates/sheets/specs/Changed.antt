@@ -3,8 +3,8 @@ use Rattle.std.specs.Prelude.{ℕ, suc, Bool, true, false, cond, not, List, [], 
 use Rattle.std.specs.List.{slice_get}
 use Rattle.score.specs.Model.{Model}
 use Rattle.score.specs.declared.choice.Choice.{Choice}
-use Rattle.calls.specs.declared.changes.Four.{Four}
-use Rattle.calls.specs.Standing.{at_four}
+use Rattle.score.specs.declared.values.Four.{Four}
+use Rattle.score.specs.Values.{at_four}
 use Rattle.records.specs.declared.pairs.Link.{Link}
 use Rattle.records.specs.declared.pairs.Pair.{Pair}
 use Rattle.records.specs.Pairs.{touches, link_of, is_pair, joined_pair, place}

@@ -4,7 +4,7 @@ ghost use Rattle.records.specs.Pairs.{touches};
 ghost use Rattle.sheets.specs.Changed.{chosen, join_at, handed, kept, post_in, post_used, worth_one, worth_two, hand, join_pair_at, two_best, two_scores};
 
 use crate::variables::Var;
-use calls::changes::Four;
+use score::values::Four;
 use records::access::{first, read, write};
 use records::pairs::{Link, Pair, place_of};
 use score::choice::{Choice, better_of};

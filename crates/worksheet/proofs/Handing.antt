@@ -13,7 +13,7 @@ use Rattle.records.specs.declared.pairs.Pair.{Pair}
 use Rattle.sheets.specs.declared.variables.Var.{Var}
 use Rattle.sheets.specs.Changed.{hand, handed}
 use Rattle.partners.specs.Links.{front, links, first_link}
-use Rattle.calls.specs.Standing.{at_four}
+use Rattle.score.specs.Values.{at_four}
 use Rattle.sheets.specs.Variables.{score_at}
 use Rattle.worksheet.specs.Records.{link_scores, var_says, Placed}
 use Rattle.worksheet.proofs.Onto.{join_at_other, join_at_length, join_at_placed, joined_says}

@@ -3,7 +3,7 @@ use Rattle.std.proofs.Common.{◌≡◌, ℕ, Bool, true, false, cond, ap}
 use mathlib.Core.Path.{fun_ext}
 use Rattle.score.specs.declared.choice.Choice.{Choice}
 use Rattle.steps.specs.Steps.{noted, alone, by_one, by_two, set_to}
-use Rattle.calls.specs.declared.changes.Four.{Four}
+use Rattle.score.specs.declared.values.Four.{Four}
 use Rattle.notes.specs.Removals.{bank, bank_number, note_of}
 use Rattle.notes.proofs.Reading.{bank_back}
 use Rattle.worksheet.specs.Noting.{alone_note, one_note, two_note, set_note}

@@ -7,13 +7,13 @@ use Rattle.std.proofs.lemmas.List.{length-set}
 use Rattle.std.proofs.lemmas.Bool.{eq-eqb, ne_eqb, eqb-true, cases_eq, cases_Bool, cond-true, cond-false, and_parts, and_from}
 use Rattle.score.specs.Model.{Model}
 use Rattle.steps.specs.Change.{onto_one, onto_two, onto_scores, onto_pair}
-use Rattle.calls.specs.declared.changes.Four.{Four}
+use Rattle.score.specs.declared.values.Four.{Four}
 use Rattle.records.specs.declared.pairs.Pair.{Pair}
 use Rattle.sheets.specs.declared.variables.Var.{Var}
 use Rattle.sheets.specs.Changed.{join_at, post}
 use Rattle.records.specs.Pairs.{joined_four, joined_pair, is_pair}
 use Rattle.sheets.specs.Variables.{joined_var, score_at}
-use Rattle.calls.specs.Standing.{at_four}
+use Rattle.score.specs.Values.{at_four}
 use Rattle.worksheet.specs.Records.{found, var_scores, var_says, pair_scores, contents, Present, Placed, Apart}
 use Rattle.records.proofs.Lists.{nth_below, nth_set_same, nth_set_other}
 use Rattle.worksheet.proofs.Partners.{found_here, found_on_low, found_on_high}

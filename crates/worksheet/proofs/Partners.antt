@@ -7,12 +7,12 @@ use Rattle.std.proofs.lemmas.Bool.{eq-eqb, ne_eqb, cases_eq, cases_order, cond-t
 use Rattle.steps.specs.Sheet.{pair, partners, turned, count, degree}
 use Rattle.steps.proofs.Sheets.{some_mapped, pair_lower, pair_higher, pair_self}
 use Rattle.steps.proofs.Counting.{but, count_one, count_same, count_zero}
-use Rattle.calls.specs.declared.changes.Four.{Four}
+use Rattle.score.specs.declared.values.Four.{Four}
 use Rattle.records.specs.declared.pairs.Link.{Link}
 use Rattle.records.specs.declared.pairs.Pair.{Pair}
 use Rattle.sheets.specs.declared.variables.Var.{Var}
 use Rattle.partners.specs.Links.{front, links, first_link}
-use Rattle.calls.specs.Standing.{at_four, turned_four}
+use Rattle.score.specs.Values.{at_four, turned_four}
 use Rattle.records.specs.Pairs.{link, link_of, is_pair}
 use Rattle.worksheet.specs.Records.{found, pair_scores, link_scores, contents, Present, Placed, Apart}
 use Rattle.records.proofs.Lists.{nth_below}

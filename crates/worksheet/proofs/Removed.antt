@@ -17,7 +17,7 @@ use Rattle.steps.proofs.Sheets.{pair_self}
 use Rattle.partners.specs.declared.links.ByOne.{ByOne}
 use Rattle.partners.specs.declared.links.ByTwo.{ByTwo}
 use Rattle.notes.specs.declared.removal.Removal.{Removal}
-use Rattle.calls.specs.declared.changes.Four.{Four}
+use Rattle.score.specs.declared.values.Four.{Four}
 use Rattle.records.specs.declared.pairs.Link.{Link}
 use Rattle.records.specs.declared.pairs.Pair.{Pair}
 use Rattle.sheets.specs.declared.variables.Var.{Var}
@@ -27,7 +27,7 @@ use Rattle.worksheet.specs.Left.{AloneLeft, OneLeft, TwoLeft, SetLeft}
 use Rattle.partners.specs.Links.{links, first_link, present_at, alone_at, one_at, two_at}
 use Rattle.notes.specs.Removals.{note_of}
 use Rattle.worksheet.specs.Noting.{alone_note, one_note, two_note, set_note}
-use Rattle.calls.specs.Standing.{at_four}
+use Rattle.score.specs.Values.{at_four}
 use Rattle.worksheet.specs.Records.{link_scores, pair_scores, var_says, var_scores, found, contents, Arranged}
 use Rattle.worksheet.proofs.Asked.{present_is, absent_is, alone_asked, alone_unasked, one_asked, one_unasked, two_asked, two_unasked}
 use Rattle.worksheet.proofs.Handing.{hand_all, handed_links, hand_all_length, hand_all_placed, hand_all_other, hand_says}

@@ -20,7 +20,7 @@ use Rattle.sheets.specs.Totals.{best_var, best_pair, with_vars, with_pairs, with
 use Rattle.worksheet.specs.Bounds.{largest_score, best_four, arm, star_score}
 use Rattle.sheets.specs.Changed.{chosen, choose_held}
 use Rattle.sheets.specs.Variables.{joined_var, score_at}
-use Rattle.calls.specs.Standing.{at_four}
+use Rattle.score.specs.Values.{at_four}
 use Rattle.records.specs.Pairs.{is_pair}
 use Rattle.worksheet.specs.Records.{var_scores, var_says, pair_scores, found, contents, Present, Placed, Arranged}
 use Rattle.records.proofs.Lists.{nth_none, nth_below}

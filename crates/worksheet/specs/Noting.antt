@@ -1,7 +1,7 @@
 -- The note of each removal. Assumes nothing.
 use Rattle.std.specs.Prelude.{ℕ, Bool}
 use Rattle.score.specs.declared.choice.Choice.{Choice}
-use Rattle.calls.specs.declared.changes.Four.{Four}
+use Rattle.score.specs.declared.values.Four.{Four}
 use Rattle.notes.specs.declared.removal.Removal.{Removal}
 use Rattle.notes.specs.declared.removal.Way.TheVariants.{Alone, ByOne, ByTwo, Set}
 use Rattle.notes.specs.Removals.{bank_number, removal}

@@ -3,8 +3,8 @@ use Rattle.std.specs.Prelude.{◌≡◌, ℕ, ◌<◌, Bool, true, cond, List, [
 use Rattle.std.specs.Option.{option_map}
 use Rattle.std.specs.List.{AllByRecursion, slice_get}
 use Rattle.steps.specs.Sheet.{Sheet}
-use Rattle.calls.specs.declared.changes.Four.{Four}
-use Rattle.calls.specs.Standing.{at_four}
+use Rattle.score.specs.declared.values.Four.{Four}
+use Rattle.score.specs.Values.{at_four}
 use Rattle.records.specs.declared.pairs.Link.{Link}
 use Rattle.records.specs.declared.pairs.Pair.{Pair}
 use Rattle.records.specs.Pairs.{is_pair}

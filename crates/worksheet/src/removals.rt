@@ -7,7 +7,7 @@ ghost use Rattle.worksheet.specs.Does.{AloneDoes, OneDoes, TwoDoes, SetDoes};
 ghost use Rattle.worksheet.specs.Left.{AloneLeft, OneLeft, TwoLeft, SetLeft, WhereNone};
 ghost use Rattle.worksheet.specs.Noting.{alone_note, one_note, two_note, set_note};
 
-use calls::changes::Four;
+use score::values::Four;
 use notes::removal::{Removal, Way};
 use partners::links::{ByOne, ByTwo, alone_at, one_at, present_at, two_at};
 use records::access::{first, write};

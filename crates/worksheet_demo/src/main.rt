@@ -5,7 +5,7 @@
 ghost use Rattle.std.specs.Prelude.{Some};
 ghost use Rattle.std.proofs.Common.{rules};
 
-use calls::changes::Four;
+use score::values::Four;
 use notes::removal::{Removal, Way};
 use notes::splits::Splits;
 use notes::stack::Notes;

@@ -6,7 +6,7 @@ ghost use Rattle.board.specs.Stands.{Changed, TakenBack};
 ghost use Rattle.board.specs.Tables.{held, records_view, set_pin};
 
 use super::Board;
-use calls::changes::Four;
+use score::values::Four;
 use calls::refusals::Refusal;
 use score::interface::Kind;
 

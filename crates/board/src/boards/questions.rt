@@ -8,7 +8,7 @@ ghost use Rattle.board.specs.Tables.{held, records_view, used, Place};
 
 use super::Board;
 use super::reading::find;
-use calls::changes::Four;
+use score::values::Four;
 use calls::entries::{Two, score_four, score_two};
 use calls::questions::{ask_back, ask_free, ask_one, ask_pair, ask_pin};
 use calls::refusals::Refusal;

@@ -4,7 +4,7 @@ ghost use Rattle.calls.specs.Questions.{most_changes, most_pairs};
 ghost use Rattle.board.specs.Tables.{held, replace_var, replace_pair, keep_pair, put_back, take_back, join_one, join_pair, set_pin};
 
 use super::Board;
-use calls::changes::Four;
+use score::values::Four;
 use records::access::write;
 use records::history::{Undo, Was};
 use records::pairs::Pair;
