@@ -9,7 +9,7 @@ use Rattle.calls.specs.Questions.{keeps_pin, keeps_pins}
 use Rattle.calls.specs.Runs.{values}
 use Rattle.records.specs.declared.pairs.Pair.{Pair}
 use Rattle.records.specs.declared.variables.Var.{Var}
-use Rattle.records.specs.Variables.{var_at}
+use Rattle.score.specs.Values.{at_two}
 use Rattle.board.specs.Scoring.{vars_at, pair_at, pairs_at, JoinsOn}
 
 module _ {E S K : Type 0} (M : Model E S) (laws : Laws M) (means : K → S) (J : K → K → K)
@@ -23,7 +23,7 @@ module _ {E S K : Type 0} (M : Model E S) (laws : Laws M) (means : K → S) (J :
       subst (Joining M (map means zs ++ rest) whole) sum (joining_next M laws (means x) (map means zs ++ rest) whole (means s) here)
 
 module _ {K : Type 0} (layout : List ℕ) where
-  pub vars_step : (rs : List (Var K)) (i : ℕ) (r : Var K) (x : K) → i < length rs → r ≡ get_or rs i r → x ≡ var_at r (values layout i)
+  pub vars_step : (rs : List (Var K)) (i : ℕ) (r : Var K) (x : K) → i < length rs → r ≡ get_or rs i r → x ≡ at_two r.scores (values layout i)
       → vars_at layout i (drop i rs) ≡ x ∷ vars_at layout (i + 1) (drop (i + 1) rs)
   vars_step rs i r x below is at =
       ap (vars_at layout i) (drop_more rs i r below ∙ ap (λ q. q ∷ drop (i + 1) rs) (sym is))

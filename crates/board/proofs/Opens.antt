@@ -17,18 +17,17 @@ use Rattle.board.specs.Tables.{Held}
 use Rattle.records.proofs.Lists.{nth_set_same, nth_set_other}
 
 -- one place more is cleared
-pub cleared_more : {X : Type 0} (before now' : List X) (x : X) (v : ℕ) → length now' ≡ length before
-    → ((w : ℕ) → w < v → w < length before → slice_get now' w ≡ Some x)
-    → (w : ℕ) → w < v + 1 → w < length before → slice_get (set now' v x) w ≡ Some x
-cleared_more before now' x v long so_far w below inside = go (cases_eq w v)
+pub cleared_more : {X : Type 0} (xs : List X) (x : X) (v : ℕ) → v < length xs → ((w : ℕ) → w < v → slice_get xs w ≡ Some x)
+    → (w : ℕ) → w < v + 1 → slice_get (set xs v x) w ≡ Some x
+cleared_more xs x v inside so_far w below = go (cases_eq w v)
   where
-    go : (w ≡ v) ⊎ (w ≡ v → ⊥) → slice_get (set now' v x) w ≡ Some x
-    go (inl e) = ap (slice_get (set now' v x)) e ∙ nth_set_same now' v x (omega (arith, e, inside, long))
-    go (inr e) = nth_set_other now' v w x e ∙ so_far w (omega arith) inside
+    go : (w ≡ v) ⊎ (w ≡ v → ⊥) → slice_get (set xs v x) w ≡ Some x
+    go (inl e) = ap (slice_get (set xs v x)) e ∙ nth_set_same xs v x inside
+    go (inr e) = nth_set_other xs v w x e ∙ so_far w (omega arith)
 
 module _ {E S K : Type 0} (M : Model E S) (means : K → S) (n : ℕ) (vars : List (Var K)) (pairs : List (Pair K)) (history : List (Undo K)) where
   opened_so : (cleared : List (Var K)) (r : Var K) (h : Held K) → None ≡ not_opened n vars pairs history → Fresh M means r
-      → length cleared ≡ length vars → ((v : ℕ) → v < n → v < length vars → slice_get cleared v ≡ Some r) → h ≡ no_changes cleared pairs history n
+      → length cleared ≡ length vars → ((v : ℕ) → v < length vars → slice_get cleared v ≡ Some r) → h ≡ no_changes cleared pairs history n
       → Opened M means n vars pairs history h
   opened_so cleared r h e fr long each is =
       let yes' = all_yes (opening_questions n (length vars) (length pairs) (length history)) (sym e) in
@@ -47,7 +46,7 @@ module _ {E S K : Type 0} (M : Model E S) (means : K → S) (n : ℕ) (vars : Li
           n_small = n_small;
           valid = tt;
           traces = record {
-            vars = λ v below. (r, each v below (omega (arith, below, n_small, vars_long)), record { zero = fr.zero; one = fr.one; pin = fr.pin });
+            vars = λ v below. (r, each v (omega (arith, below, n_small, vars_long)), record { zero = fr.scores false; one = fr.scores true; pin = fr.pin });
             keys = refl;
             pairs = tt;
           };
@@ -56,7 +55,7 @@ module _ {E S K : Type 0} (M : Model E S) (means : K → S) (n : ℕ) (vars : Li
       }
 
   pub opens : (reply : Result (Unit {0}) Refusal) (cleared : List (Var K)) (r : Var K) (h : Held K) → is_err reply ≡ false → refusal_in reply ≡ not_opened n vars pairs history → Fresh M means r
-      → length cleared ≡ length vars → ((v : ℕ) → v < n → v < length vars → slice_get cleared v ≡ Some r) → h ≡ no_changes cleared pairs history n
+      → length cleared ≡ length vars → ((v : ℕ) → v < length vars → slice_get cleared v ≡ Some r) → h ≡ no_changes cleared pairs history n
       → Opened M means n vars pairs history h
   opens (Ok x) cleared r h good e = opened_so cleared r h e
   opens (Err f) cleared r h bad e = absurd (true≢false bad)

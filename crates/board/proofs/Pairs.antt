@@ -10,13 +10,13 @@ use Rattle.score.specs.declared.values.Four.{Four}
 use Rattle.calls.specs.Entries.{FourScored}
 use Rattle.calls.specs.Questions.{view_of, first_no, change_questions, most_changes}
 use Rattle.calls.specs.Standing.{Standing, more, count, kept_pairs, posted_at, pair_score, score_of, key, same_key, has_key, how_many}
-use Rattle.score.specs.Values.{at_four, turned_four, lower_first}
+use Rattle.score.specs.Values.{at_four, turned_four, lower_first, joined_four}
 use Rattle.calls.proofs.Asked.{pair_passed}
 use Rattle.calls.proofs.Counts.{pair_of_count}
 use Rattle.calls.proofs.OverPosts.{same_key_refl, kept_once, unkept_neutral}
 use Rattle.records.specs.declared.pairs.Pair.{Pair}
 use Rattle.records.specs.declared.history.Was.TheVariants.{Pair as WasPair, Unkept}
-use Rattle.records.specs.Pairs.{joined_four, joined_pair}
+use Rattle.records.specs.Pairs.{joined_pair}
 use Rattle.board.specs.Stands.{tables_of, VarShows, PairShows, Shows, Stands}
 use Rattle.board.specs.Tables.{Held, used, pair_key, replace_pair, keep_pair, undo_at}
 use Rattle.records.proofs.Lists.{set_back, take_set, take_pushed}

@@ -14,7 +14,7 @@ use Rattle.calls.specs.Standing.{Standing, kept_pairs, pin_of, one_score, pair_s
 use Rattle.calls.proofs.Counts.{layout_within}
 use Rattle.records.specs.declared.pairs.Pair.{Pair}
 use Rattle.records.specs.declared.variables.Var.{Var}
-use Rattle.records.specs.Variables.{var_at}
+use Rattle.score.specs.Values.{at_two}
 use Rattle.board.specs.Scoring.{vars_at, pairs_at, JoinsOn}
 use Rattle.board.specs.ScoringBoard.{layout_at, LayoutJoined}
 use Rattle.board.specs.Stands.{VarShows, PairShows, Stands, Scored}
@@ -36,7 +36,7 @@ variables_counted zero = refl
 variables_counted (suc n) = ap (λ l. l ++ n ∷ []) (variables_counted n) ∙ sym (counted_push 0 n ∙ ap (λ i. counted 0 n ++ i ∷ []) (omega arith))
 
 module _ {E S K : Type 0} (M : Model E S) (means : K → S) (n : ℕ) (cs : Standing E) (layout : List ℕ) where
-  var_shown : (v : ℕ) (r : Var K) (x : Bool) → VarShows M means n cs v r → means (var_at r x) ≡ one_score M cs v x
+  var_shown : (v : ℕ) (r : Var K) (x : Bool) → VarShows M means n cs v r → means (at_two r.scores x) ≡ one_score M cs v x
   var_shown v r true s = s.one
   var_shown v r false s = s.zero
 

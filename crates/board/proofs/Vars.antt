@@ -12,6 +12,7 @@ use Rattle.calls.specs.Questions.{view_of, first_no, change_questions, most_chan
 use Rattle.calls.specs.Standing.{Standing, more, count, kept_pairs, pin_of, one_score, score_of}
 use Rattle.calls.proofs.Asked.{one_passed}
 use Rattle.calls.proofs.Counts.{one_of_count}
+use Rattle.score.specs.declared.values.Two.{Two}
 use Rattle.records.specs.declared.variables.Var.{Var}
 use Rattle.records.specs.declared.history.Was.TheVariants.{Var as WasVar}
 use Rattle.records.specs.Variables.{joined_var, with_pin}
@@ -84,14 +85,14 @@ module _ {E S K : Type 0} (M : Model E S) (laws : Laws M) (means : K → S) (J :
       ∙ (λ i. M.join (is i) (score i))
 
   module _ (n : ℕ) (h : Held K) (cs : Standing E) (st : Stands M means n h cs) where
-    pub posted : (v : ℕ) (z o : E) (zk ok : K) (old : Var K) → first_no (change_questions M (view_of n cs) (One v z o)) ≡ None
-        → M.score z ≡ Some (means zk) → M.score o ≡ Some (means ok) → slice_get h.vars v ≡ Some old → VarShows M means n cs v old
-        → Written M means n h (replace_var h v old (joined_var J old zk ok)) cs (One v z o) (undo_at v (WasVar old))
-    posted v z o zk ok old pass zs os there sh =
+    pub posted : (v : ℕ) (z o : E) (t : Two K) (old : Var K) → first_no (change_questions M (view_of n cs) (One v z o)) ≡ None
+        → M.score z ≡ Some (means t.zero) → M.score o ≡ Some (means t.one) → slice_get h.vars v ≡ Some old → VarShows M means n cs v old
+        → Written M means n h (replace_var h v old (joined_var J old t)) cs (One v z o) (undo_at v (WasVar old))
+    posted v z o t old pass zs os there sh =
         let room = (one_passed M (view_of n cs) v z o pass).room in
-        let zero = joined_exactly (count cs) old.zero zk _ z room sh.zero (one_of_count M laws n cs st.valid v false) zs in
-        let one = joined_exactly (count cs) old.one ok _ o room sh.one (one_of_count M laws n cs st.valid v true) os in
-        replaced M laws means n h cs st (One v z o) v old (joined_var J old zk ok) there
+        let zero = joined_exactly (count cs) old.scores.zero t.zero _ z room sh.zero (one_of_count M laws n cs st.valid v false) zs in
+        let one = joined_exactly (count cs) old.scores.one t.one _ o room sh.one (one_of_count M laws n cs st.valid v true) os in
+        replaced M laws means n h cs st (One v z o) v old (joined_var J old t) there
         (record {
           zero = zero ∙ sym (cond-true (eqb v v) (M.join (one_score M cs v false) (score_of M z)) (one_score M cs v false) (eq-eqb v v refl));
           one = one ∙ sym (cond-true (eqb v v) (M.join (one_score M cs v true) (score_of M o)) (one_score M cs v true) (eq-eqb v v refl));

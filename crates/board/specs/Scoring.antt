@@ -3,15 +3,14 @@ use Rattle.std.specs.Prelude.{ℕ, suc, List, [], ◌∷◌, ◌++◌, map}
 use Rattle.score.specs.Joins.{Joining}
 use Rattle.score.specs.Model.{Model}
 use Rattle.calls.specs.Runs.{values}
-use Rattle.score.specs.Values.{at_four}
+use Rattle.score.specs.Values.{at_two, at_four}
 use Rattle.records.specs.declared.pairs.Pair.{Pair}
 use Rattle.records.specs.declared.variables.Var.{Var}
-use Rattle.records.specs.Variables.{var_at}
 
 -- the scores of these variables, from v on, at the layout's values
 abbrev pub vars_at : {K : Type 0} → List ℕ → ℕ → List (Var K) → List K
 vars_at layout v [] = []
-vars_at layout v (r ∷ rs) = var_at r (values layout v) ∷ vars_at layout (suc v) rs
+vars_at layout v (r ∷ rs) = at_two r.scores (values layout v) ∷ vars_at layout (suc v) rs
 
 abbrev pub pair_at : {K : Type 0} → List ℕ → Pair K → K
 pair_at layout p = at_four p.scores (values layout p.low) (values layout p.high)

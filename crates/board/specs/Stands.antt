@@ -34,8 +34,8 @@ undone u t = elim u.was [
 module _ {E S K : Type 0} (M : Model E S) (means : K → S) (n : ℕ) where
   -- a variable's record holds the scores and the pin that the list gives
   pub record VarShows (cs : Standing E) (v : ℕ) (r : Var K) : Type 0 where
-    pub zero : means r.zero ≡ one_score M cs v false
-    pub one : means r.one ≡ one_score M cs v true
+    pub zero : means r.scores.zero ≡ one_score M cs v false
+    pub one : means r.scores.one ≡ one_score M cs v true
     pub pin : r.pin ≡ pin_of cs v
 
   -- a pair's record holds the scores that the list gives

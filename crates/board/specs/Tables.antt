@@ -2,6 +2,7 @@
 use Rattle.std.specs.Prelude.{◌≡◌, ℕ, suc, ◌-◌, Bool, true, false, List, map, take, Some, None, Option, slice_set}
 use Rattle.std.specs.List.{slice_get}
 use Rattle.score.specs.declared.values.Four.{Four}
+use Rattle.score.specs.declared.values.Two.{Two}
 use Rattle.calls.specs.Questions.{View}
 use Rattle.calls.specs.Standing.{has_key}
 use Rattle.records.specs.Pairs.{joined_pair}
@@ -23,7 +24,7 @@ pub record Held (K : Type 0) : Type 0 where
   pub standing : ℕ
 
 abbrev pub held : {K : Type 0} → Board K → Held K
-held b = record { vars = b.vars.now; pairs = b.pairs.now; history = b.history.now; n = b.n; kept = b.kept; standing = b.standing }
+held b = record { vars = b.memory.vars.now; pairs = b.memory.pairs.now; history = b.memory.history.now; n = b.counts.variables; kept = b.counts.pairs; standing = b.counts.changes }
 
 abbrev pub pair_key : {K : Type 0} → Pair K → ℕ × ℕ
 pair_key p = (p.low, p.high)
@@ -42,6 +43,17 @@ records_view h = record { n = h.n; standing = h.standing; kept = h.kept; keys = 
 
 abbrev pub undo_at : {K : Type 0} → ℕ → Was K → Undo K
 undo_at i w = record { at = i; was = w }
+
+-- what a change replaces is kept in the history
+abbrev pub noted : {K : Type 0} → Held K → ℕ → Was K → Held K
+noted h i w = record {
+  vars = h.vars;
+  pairs = h.pairs;
+  history = slice_set h.history h.standing (undo_at i w);
+  n = h.n;
+  kept = h.kept;
+  standing = suc h.standing;
+}
 
 -- a variable's record is replaced, and the old one kept in the history
 abbrev pub replace_var : {K : Type 0} → Held K → ℕ → Var K → Var K → Held K
@@ -91,8 +103,8 @@ take_back h = elim (slice_get h.history (h.standing - 1)) [ None ↦ h | Some u 
 -- J: what a join of two held scores holds
 module _ {K : Type 0} (J : K → K → K) where
   -- two scores are joined onto a variable's
-  abbrev pub join_one : Held K → ℕ → K → K → Held K
-  join_one h v z o = elim (slice_get h.vars v) [ None ↦ h | Some old ↦ replace_var h v old (joined_var J old z o) ]
+  abbrev pub join_one : Held K → ℕ → Two K → Held K
+  join_one h v t = elim (slice_get h.vars v) [ None ↦ h | Some old ↦ replace_var h v old (joined_var J old t) ]
 
   -- four scores, the lower variable first, are joined onto the pair's at its place, or become that pair
   abbrev pub join_pair : Held K → ℕ × ℕ → Four K → Option ℕ → Held K

@@ -7,17 +7,22 @@ mod scoring;
 mod sending;
 mod writing;
 
+use calls::questions::Counts;
 use records::history::Undo;
 use records::pairs::Pair;
 use records::variables::Var;
 
+// The records that a board is lent.
+#[derive(Drop)]
+pub struct Memory<'a, K> {
+    pub vars: &'a mut [Var<K>],
+    pub pairs: &'a mut [Pair<K>],
+    pub history: &'a mut [Undo<K>],
+}
+
 // A board of n variables: their records, the pairs kept between them, and the history of the changes that stand.
 #[derive(Drop)]
 pub struct Board<'a, K> {
-    vars: &'a mut [Var<K>],
-    pairs: &'a mut [Pair<K>],
-    history: &'a mut [Undo<K>],
-    n: usize,
-    kept: usize,
-    standing: usize,
+    memory: Memory<'a, K>,
+    counts: Counts,
 }

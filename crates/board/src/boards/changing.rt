@@ -6,9 +6,9 @@ ghost use Rattle.board.specs.Stands.{Changed, TakenBack};
 ghost use Rattle.board.specs.Tables.{held, records_view, set_pin};
 
 use super::Board;
-use score::values::Four;
 use calls::refusals::Refusal;
 use score::interface::Kind;
+use score::values::Four;
 
 impl<'a, K: Kind> Board<'a, K> {
     // Joins two entries onto a variable's scores, at 0 and at 1.
@@ -16,7 +16,7 @@ impl<'a, K: Kind> Board<'a, K> {
         ensures { Changed K.Kind.model K.Kind.means (held self.old) (held self.new) (One v zero one) result }
     {
         let post = self.check_one(v, zero, one)?;
-        self.join_one(v as usize, post.zero, post.one);
+        self.join_one(v as usize, post);
         Ok(())
     }
 

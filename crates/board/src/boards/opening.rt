@@ -5,68 +5,55 @@ ghost use Rattle.calls.specs.Questions.{refusal_in};
 ghost use Rattle.board.specs.Opening.{not_opened, no_changes, Opened};
 ghost use Rattle.board.specs.Tables.{held};
 
-use super::Board;
-use calls::questions::ask_opening;
+use super::{Board, Memory};
+use calls::questions::{Counts, ask_opening};
 use calls::refusals::Refusal;
-use records::access::write;
-use records::history::Undo;
-use records::pairs::Pair;
 use records::variables::Var;
 use score::interface::Kind;
 
-// Writes the same record at each of the first n places.
-fn clear<K: Copy>(vars: &mut [Var<K>], n: usize, fresh: Var<K>)
-    ensures { (v : ℕ) → v < n → v < length vars.old → slice_get vars.new v ≡ Some fresh }
+// Writes the same record at each place.
+fn clear<K: Copy>(vars: &mut [Var<K>], fresh: Var<K>)
+    ensures { (v : ℕ) → v < length vars.old → slice_get vars.new v ≡ Some fresh }
 {
-    for v in 0..n {
-        write(vars, v, fresh);
+    for var in vars {
+        *var = fresh;
     }
 }
 
 impl<'a, K: Kind> Board<'a, K> {
     // Whether a board of n variables can be opened over these records.
-    pub fn check(
-        n: u32,
-        vars: &[Var<K>],
-        pairs: &[Pair<K>],
-        history: &[Undo<K>],
-    ) -> Result<(), Refusal>
-        ensures { refusal_in result ≡ not_opened n vars.now pairs.now history.now }
+    pub fn check(n: u32, memory: &Memory<'a, K>) -> Result<(), Refusal>
+        ensures { refusal_in result ≡ not_opened n memory.now.vars.now memory.now.pairs.now memory.now.history.now }
     {
+        let Memory {
+            vars,
+            pairs,
+            history,
+        } = memory;
         ask_opening(n, vars.len(), pairs.len(), history.len())
     }
 
     // A fresh board where the check says yes; otherwise one without variables.
-    pub fn open(
-        n: u32,
-        vars: &'a mut [Var<K>],
-        pairs: &'a mut [Pair<K>],
-        history: &'a mut [Undo<K>],
-    ) -> Board<'a, K>
-        ensures { Opened K.Kind.model K.Kind.means n vars.old pairs.old history.old (held result) }
+    pub fn open(n: u32, memory: Memory<'a, K>) -> Board<'a, K>
+        ensures { Opened K.Kind.model K.Kind.means n memory.entry.vars.now memory.entry.pairs.now memory.entry.history.now (held result) }
     {
-        if Board::check(n, vars, pairs, history).is_err() {
-            return Board::over(vars, pairs, history, 0);
+        if Board::check(n, &memory).is_err() {
+            return Board::over(memory, 0);
         }
-        clear(vars, n as usize, Var::fresh());
-        Board::over(vars, pairs, history, n as usize)
+        clear(memory.vars, Var::fresh());
+        Board::over(memory, n as usize)
     }
 
-    fn over(
-        vars: &'a mut [Var<K>],
-        pairs: &'a mut [Pair<K>],
-        history: &'a mut [Undo<K>],
-        n: usize,
-    ) -> Board<'a, K>
-        ensures { held result ≡ no_changes vars.old pairs.old history.old n }
+    fn over(memory: Memory<'a, K>, variables: usize) -> Board<'a, K>
+        ensures { held result ≡ no_changes memory.entry.vars.now memory.entry.pairs.now memory.entry.history.now variables }
     {
         Board {
-            vars,
-            pairs,
-            history,
-            n,
-            kept: 0,
-            standing: 0,
+            memory,
+            counts: Counts {
+                variables,
+                pairs: 0,
+                changes: 0,
+            },
         }
     }
 }

@@ -8,11 +8,10 @@ ghost use Rattle.board.specs.Tables.{held, records_view, used, Place};
 
 use super::Board;
 use super::reading::find;
-use score::values::Four;
-use calls::entries::{Two, score_four, score_two};
-use calls::questions::{ask_back, ask_free, ask_one, ask_pair, ask_pin};
+use calls::entries::{score_four, score_two};
 use calls::refusals::Refusal;
 use score::interface::Kind;
+use score::values::{Four, Two};
 
 // The scores of a post onto a pair, as posted, and where the pair stands if it is kept.
 #[derive(Clone, Copy)]
@@ -27,7 +26,7 @@ impl<'a, K: Kind> Board<'a, K> {
         ensures zero { IfOk result (λ s. K.Kind.model.score zero ≡ Some (K.Kind.means s.zero)) }
         ensures one { IfOk result (λ s. K.Kind.model.score one ≡ Some (K.Kind.means s.one)) }
     {
-        ask_one(self.n, self.standing, v, score_two::<K>(zero, one))
+        self.counts.ask_one(v, score_two::<K>(zero, one))
     }
 
     pub(super) fn check_pair(
@@ -40,34 +39,27 @@ impl<'a, K: Kind> Board<'a, K> {
         ensures scores { IfOk result (λ p. FourScored K.Kind.model K.Kind.means entries p.scores) }
         ensures place { IfOk result (λ p. Place (key a b) (used (held self.now)) p.place) }
     {
-        let place = find(self.pairs, self.kept, a.min(b), a.max(b));
-        let scores = ask_pair(
-            self.n,
-            self.standing,
-            self.kept,
-            a,
-            b,
-            score_four::<K>(entries),
-            place.is_some(),
-        )?;
+        let place = find(self.memory.pairs, self.counts.pairs, a.min(b), a.max(b));
+        let scores = score_four::<K>(entries);
+        let scores = self.counts.ask_pair(a, b, scores, place.is_some())?;
         Ok(PairPost { scores, place })
     }
 
     pub(super) fn check_pin(&self, v: u32, value: u32) -> Result<(), Refusal>
         ensures { refusal_in result ≡ first_no (change_questions K.Kind.model (records_view (held self.now)) (Pin v value)) }
     {
-        ask_pin(self.n, self.standing, v, value, self.pin_of(v as usize))
+        self.counts.ask_pin(v, value, self.pin_of(v as usize))
     }
 
     pub(super) fn check_free(&self, v: u32) -> Result<(), Refusal>
         ensures { refusal_in result ≡ first_no (change_questions K.Kind.model (records_view (held self.now)) (Free v)) }
     {
-        ask_free(self.n, self.standing, v, self.pin_of(v as usize))
+        self.counts.ask_free(v, self.pin_of(v as usize))
     }
 
     pub(super) fn check_back(&self) -> Result<(), Refusal>
         ensures { refusal_in result ≡ first_no (back_questions (records_view (held self.now))) }
     {
-        ask_back(self.standing)
+        self.counts.ask_back()
     }
 }

@@ -13,19 +13,19 @@ impl<'a, K: Copy> Board<'a, K> {
     pub(super) fn var_at(&self, v: usize) -> Option<Var<K>>
         ensures { result ≡ slice_get (held self.now).vars v }
     {
-        read(self.vars, v)
+        read(self.memory.vars, v)
     }
 
     pub(super) fn pair_at(&self, at: usize) -> Option<Pair<K>>
         ensures { result ≡ slice_get (held self.now).pairs at }
     {
-        read(self.pairs, at)
+        read(self.memory.pairs, at)
     }
 
     pub(super) fn undo_at(&self, at: usize) -> Option<Undo<K>>
         ensures { result ≡ slice_get (held self.now).history at }
     {
-        read(self.history, at)
+        read(self.memory.history, at)
     }
 
     pub(super) fn pin_of(&self, v: usize) -> Option<bool>

@@ -2,41 +2,29 @@
 ghost use Rattle.std.specs.Prelude.{◌≡◌, []};
 ghost use Rattle.calls.specs.Questions.{keeps_pin, keeps_pins, first_no, refusal_in, score_questions};
 ghost use Rattle.calls.specs.Runs.{values};
-ghost use Rattle.records.specs.Variables.{var_at};
+ghost use Rattle.score.specs.Values.{at_two};
 ghost use Rattle.board.specs.Scoring.{pair_at, vars_at, pairs_at, JoinsOn};
 ghost use Rattle.board.specs.ScoringBoard.{LayoutJoined};
 ghost use Rattle.board.specs.Stands.{Scored};
 ghost use Rattle.board.specs.Tables.{held, records_view};
 
 use super::Board;
-use calls::questions::ask_score;
 use calls::refusals::Refusal;
-use records::access::first;
+use records::access::{first, is_one};
 use records::pairs::Pair;
 use records::variables::Var;
 use score::interface::Kind;
 
-// Whether the layout has 1 for this variable.
-fn is_one(layout: &[u8], v: usize) -> bool
-    ensures { result ≡ values layout.now v }
-{
-    v < layout.len() && layout[v] == 1
-}
-
 fn keeps_pin(pin: Option<bool>, value: u8) -> bool
     ensures { result ≡ keeps_pin pin value }
 {
-    match pin {
-        None => true,
-        Some(true) => value == 1,
-        Some(false) => value == 0,
-    }
+    pin.is_none_or(|pinned| value == u8::from(pinned))
 }
 
 fn var_score<K: Kind>(var: &Var<K>, v: usize, layout: &[u8]) -> K
-    ensures { result ≡ var_at var.now (values layout.now v) }
+    ensures { result ≡ at_two var.now.scores (values layout.now v) }
 {
-    var.at(is_one(layout, v))
+    var.scores.at(is_one(layout, v))
 }
 
 fn pair_score<K: Kind>(pair: &Pair<K>, layout: &[u8]) -> K
@@ -85,14 +73,18 @@ impl<'a, K: Kind> Board<'a, K> {
     fn check_score(&self, layout: &[u8]) -> Result<(), Refusal>
         ensures { refusal_in result ≡ first_no (score_questions (records_view (held self.now)) layout.now) }
     {
-        ask_score(self.n, layout, self.keeps_pins(layout))
+        self.counts.ask_score(layout, self.keeps_pins(layout))
     }
 
     fn layout_score(&self, layout: &[u8]) -> K
         ensures { LayoutJoined K.Kind.model K.Kind.means (held self.now) layout.now result }
     {
-        let ones = join_vars(K::neutral(), first(self.vars, self.n), layout);
-        join_pairs(ones, first(self.pairs, self.kept), layout)
+        let ones = join_vars(
+            K::neutral(),
+            first(self.memory.vars, self.counts.variables),
+            layout,
+        );
+        join_pairs(ones, first(self.memory.pairs, self.counts.pairs), layout)
     }
 
     // The score of a layout: a byte, 0 or 1, for each variable.

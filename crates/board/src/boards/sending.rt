@@ -1,6 +1,5 @@
 // Every call goes through here.
-ghost use Rattle.std.specs.Prelude.{◌≡◌};
-ghost use Rattle.board.specs.Sending.{Replied, done_or, score_or};
+ghost use Rattle.board.specs.Sending.{Replied};
 ghost use Rattle.board.specs.Stands.{Changed};
 ghost use Rattle.board.specs.Tables.{held};
 
@@ -9,24 +8,6 @@ use calls::answers::Answer;
 use calls::changes::{Call, Change};
 use calls::refusals::Refusal;
 use score::interface::Kind;
-
-fn done<K: Kind>(reply: Result<(), Refusal>) -> Result<Answer<K>, Refusal>
-    ensures { result ≡ done_or reply }
-{
-    match reply {
-        Ok(()) => Ok(Answer::Done),
-        Err(refusal) => Err(refusal),
-    }
-}
-
-fn scored<K: Kind>(reply: Result<K, Refusal>) -> Result<Answer<K>, Refusal>
-    ensures { result ≡ score_or reply }
-{
-    match reply {
-        Ok(score) => Ok(Answer::Is(score)),
-        Err(refusal) => Err(refusal),
-    }
-}
 
 impl<'a, K: Kind> Board<'a, K> {
     // A change, whichever it is.
@@ -46,9 +27,9 @@ impl<'a, K: Kind> Board<'a, K> {
         ensures { Replied K.Kind.model K.Kind.means (held self.old) (held self.new) call layout.now result }
     {
         match call {
-            Call::Post(change) => done(self.post(change)),
-            Call::Back => done(self.back()),
-            Call::Score => scored(self.score(layout)),
+            Call::Post(change) => self.post(change).map(|()| Answer::Done),
+            Call::Back => self.back().map(|()| Answer::Done),
+            Call::Score => self.score(layout).map(Answer::Is),
         }
     }
 }
