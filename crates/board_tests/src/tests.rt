@@ -1,6 +1,5 @@
 // Each test opens a board over memory of its own.
-use board::boards::Board;
-use score::values::Four;
+use board::boards::{Board, Memory};
 use calls::refusals::Refusal;
 use records::history::Undo;
 use records::pairs::Pair;
@@ -8,19 +7,30 @@ use records::variables::Var;
 use score::interface::Kind;
 use score::margins::{Slack, Worst};
 use score::totals::{Access, Total};
+use score::values::Four;
 use std::alloc::{AllocError, Global};
 use std::fmt::Display;
 use std::test::Fail;
 
 #[derive(Drop)]
-struct Memory<K> {
+struct Records<K> {
     vars: Vec<Var<K>>,
     pairs: Vec<Pair<K>>,
     history: Vec<Undo<K>>,
 }
 
-fn lend<K: Kind + Clone>(heap: Global) -> Result<Memory<K>, AllocError> {
-    Ok(Memory {
+impl<K> Records<K> {
+    fn lend(&mut self) -> Memory<'_, K> {
+        Memory {
+            vars: &mut self.vars,
+            pairs: &mut self.pairs,
+            history: &mut self.history,
+        }
+    }
+}
+
+fn make_records<K: Kind + Clone>(heap: Global) -> Result<Records<K>, AllocError> {
+    Ok(Records {
         vars: vec![in heap; Var::fresh(); 64]?,
         pairs: vec![in heap; Pair::unused(); 256]?,
         history: vec![in heap; Undo::unused(); 1_024]?,
@@ -29,10 +39,7 @@ fn lend<K: Kind + Clone>(heap: Global) -> Result<Memory<K>, AllocError> {
 
 // The number of the refusal, and 0 where the call was accepted.
 fn number(reply: Result<(), Refusal>) -> u8 {
-    match reply {
-        Ok(()) => 0,
-        Err(refusal) => refusal.number(),
-    }
+    reply.err().map_or(0, Refusal::number)
 }
 
 // What a layout's score prints as, or the number of the refusal.
@@ -83,8 +90,8 @@ fn fill(board: &mut Board<'_, Total>) -> Result<(), Fail> {
 #[test]
 fn full_history(rt: HostRuntime) -> Result<(), Fail> {
     let heap = rt.alloc();
-    let mut lent = lend::<Total>(heap)?;
-    let mut board = Board::open(1, &mut lent.vars, &mut lent.pairs, &mut lent.history);
+    let mut records = make_records::<Total>(heap)?;
+    let mut board = Board::open(1, records.lend());
     fill(&mut board)?;
     let zero = text(heap, &board, &[0])?;
     assert!(rt; zero.as_str() == "288225978038092800");
@@ -111,8 +118,8 @@ fn keep_pairs(board: &mut Board<'_, Total>) -> Result<(), Fail> {
 #[test]
 fn full_pairs(rt: HostRuntime) -> Result<(), Fail> {
     let heap = rt.alloc();
-    let mut lent = lend::<Total>(heap)?;
-    let mut board = Board::open(64, &mut lent.vars, &mut lent.pairs, &mut lent.history);
+    let mut records = make_records::<Total>(heap)?;
+    let mut board = Board::open(64, records.lend());
     keep_pairs(&mut board)?;
     for b in 50..60 {
         assert!(rt; number(board.pair(b, 49, apart())) == 0);
@@ -129,9 +136,9 @@ fn full_pairs(rt: HostRuntime) -> Result<(), Fail> {
 #[test]
 fn refusals_in_order(rt: HostRuntime) -> Result<(), Fail> {
     let heap = rt.alloc();
-    let mut lent = lend::<Total>(heap)?;
+    let mut records = make_records::<Total>(heap)?;
     let bad = access(1, 65_536);
-    let mut board = Board::open(2, &mut lent.vars, &mut lent.pairs, &mut lent.history);
+    let mut board = Board::open(2, records.lend());
     assert!(rt; number(board.one(2, bad, bad)) == 4);
     assert!(rt; number(board.one(1, access(1, 1), bad)) == 7);
     assert!(rt; number(board.pair(2, 2, four(bad, bad, bad, bad))) == 4);
@@ -149,8 +156,8 @@ fn refusals_in_order(rt: HostRuntime) -> Result<(), Fail> {
 #[test]
 fn layouts_refused(rt: HostRuntime) -> Result<(), Fail> {
     let heap = rt.alloc();
-    let mut lent = lend::<Total>(heap)?;
-    let mut board = Board::open(2, &mut lent.vars, &mut lent.pairs, &mut lent.history);
+    let mut records = make_records::<Total>(heap)?;
+    let mut board = Board::open(2, records.lend());
     assert!(rt; number(board.pin(0, 1)) == 0);
     let long = text(heap, &board, &[2, 2, 2])?;
     assert!(rt; long.as_str() == "no 3");
@@ -170,8 +177,8 @@ fn slack(margin: i32) -> Slack {
 #[test]
 fn worst_taken_back(rt: HostRuntime) -> Result<(), Fail> {
     let heap = rt.alloc();
-    let mut lent = lend::<Worst>(heap)?;
-    let mut board = Board::open(1, &mut lent.vars, &mut lent.pairs, &mut lent.history);
+    let mut records = make_records::<Worst>(heap)?;
+    let mut board = Board::open(1, records.lend());
     assert!(rt; number(board.one(0, slack(6), slack(3))) == 0);
     assert!(rt; number(board.one(0, slack(-9), slack(8))) == 0);
     let low = text(heap, &board, &[0])?;

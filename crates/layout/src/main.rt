@@ -2,7 +2,7 @@
 
 #![tactic(auto)]
 
-use board::boards::Board;
+use board::boards::{Board, Memory};
 use console::answer;
 use fields::parts::BoardKind;
 use listing::commands::Opening;
@@ -74,11 +74,16 @@ where
     let mut vars = vec![in heap; Var::<K>::fresh(); VARIABLES]?;
     let mut pairs = vec![in heap; Pair::<K>::unused(); PAIRS]?;
     let mut history = vec![in heap; Undo::<K>::unused(); CHANGES]?;
-    match Board::check(variables, &vars, &pairs, &history) {
+    let memory = Memory {
+        vars: &mut vars,
+        pairs: &mut pairs,
+        history: &mut history,
+    };
+    match Board::check(variables, &memory) {
         Ok(()) => println!(rt; "ok")?,
         Err(refusal) => return println!(rt; "{refusal}"),
     }
-    let mut board = Board::open(variables, &mut vars, &mut pairs, &mut history);
+    let mut board = Board::open(variables, memory);
     session(rt, &mut board, reader)
 }
 
