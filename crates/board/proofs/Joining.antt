@@ -1,11 +1,9 @@
 -- A running join of held scores, and the scores that a layout selects. Assumes nothing.
-use Rattle.std.proofs.Common.{◌≡◌, ℕ, ◌+◌, ◌<◌, ◌≤◌, Bool, true, false, ◌&&◌, List, [], ◌∷◌, ◌++◌, map, length, get_or, drop, Option, sym, ap, ◌∙◌, subst, add-one}
+use Rattle.std.proofs.Common.{◌≡◌, ℕ, ◌+◌, ◌<◌, ◌≤◌, List, [], ◌∷◌, ◌++◌, map, length, get_or, drop, sym, ap, ◌∙◌, subst, add-one}
 use Rattle.score.specs.Joins.{Joining}
 use Rattle.score.specs.Model.{Model, Laws, Together}
 use Rattle.score.proofs.Joins.{joining_together, joining_next}
 use Rattle.std.proofs.lemmas.List.{drop_more, drop_all}
-use Rattle.std.proofs.lemmas.Bool.{and_left}
-use Rattle.calls.specs.Questions.{keeps_pin, keeps_pins}
 use Rattle.calls.specs.Runs.{values}
 use Rattle.records.specs.declared.pairs.Pair.{Pair}
 use Rattle.records.specs.declared.variables.Var.{Var}
@@ -39,18 +37,3 @@ module _ {K : Type 0} (layout : List ℕ) where
 
   pub pairs_ended : (ps : List (Pair K)) (i : ℕ) → length ps ≤ i → pairs_at layout (drop i ps) ≡ []
   pairs_ended ps i past = ap (pairs_at layout) (drop_all i ps past)
-
-module _ (pin : ℕ → Option Bool) (layout : List ℕ) where
-  pins_step : (i : ℕ) → i < length layout → keeps_pins pin i (drop i layout) ≡ (keeps_pin (pin i) (get_or layout i 0) && keeps_pins pin (i + 1) (drop (i + 1) layout))
-  pins_step i below = ap (keeps_pins pin i) (drop_more layout i 0 below) ∙ (λ j. keeps_pin (pin i) (get_or layout i 0) && keeps_pins pin (sym (add-one i) j) (drop (i + 1) layout))
-
-  pub pins_broken : (i : ℕ) (kept : Bool) → i < length layout → kept ≡ keeps_pin (pin i) (get_or layout i 0) → kept ≡ false
-      → keeps_pins pin i (drop i layout) ≡ keeps_pins pin 0 layout → false ≡ keeps_pins pin 0 layout
-  pins_broken i kept below is not_kept whole = sym (and_left _ (keeps_pins pin (i + 1) (drop (i + 1) layout)) (sym is ∙ not_kept)) ∙ sym (pins_step i below) ∙ whole
-
-  pub pins_more : (i : ℕ) (kept : Bool) → i < length layout → kept ≡ keeps_pin (pin i) (get_or layout i 0) → kept ≡ true
-      → keeps_pins pin i (drop i layout) ≡ keeps_pins pin 0 layout → keeps_pins pin (i + 1) (drop (i + 1) layout) ≡ keeps_pins pin 0 layout
-  pins_more i kept below is so whole = sym (ap (λ t. t && keeps_pins pin (i + 1) (drop (i + 1) layout)) (sym is ∙ so)) ∙ sym (pins_step i below) ∙ whole
-
-  pub pins_ended : (i : ℕ) → length layout ≤ i → keeps_pins pin i (drop i layout) ≡ keeps_pins pin 0 layout → true ≡ keeps_pins pin 0 layout
-  pins_ended i past whole = sym (ap (keeps_pins pin i) (drop_all i layout past)) ∙ whole

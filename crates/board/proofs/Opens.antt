@@ -1,7 +1,7 @@
 -- A board just opened. Assumes nothing.
-use Rattle.std.proofs.Common.{◌≡◌, ℕ, ◌+◌, ◌<◌, true, false, leb, ◌⊎◌, List, length, set, is_err, Some, None, Ok, Err, Result, sym, refl, ap, ◌∙◌, subst, inl, inr, arith}
+use Rattle.std.proofs.Common.{◌≡◌, ℕ, ◌<◌, true, false, leb, List, length, is_err, Some, None, Ok, Err, Result, sym, refl, subst, arith}
 use Rattle.std.specs.List.{slice_get}
-use Rattle.std.proofs.lemmas.Bool.{true≢false, false≢true, and_parts, leb-true, cases_eq}
+use Rattle.std.proofs.lemmas.Bool.{true≢false, false≢true, and_parts, leb-true}
 use Rattle.score.specs.Model.{Model}
 use Rattle.calls.specs.declared.refusals.Refusal.{Refusal}
 use Rattle.calls.specs.Questions.{refusal_in, opening_questions, most_variables, most_pairs, most_changes}
@@ -14,16 +14,6 @@ use Rattle.records.specs.Variables.{Fresh}
 use Rattle.board.specs.Opening.{not_opened, no_changes, Opened}
 use Rattle.board.specs.Stands.{Stands}
 use Rattle.board.specs.Tables.{Held}
-use Rattle.records.proofs.Lists.{nth_set_same, nth_set_other}
-
--- one place more is cleared
-pub cleared_more : {X : Type 0} (xs : List X) (x : X) (v : ℕ) → v < length xs → ((w : ℕ) → w < v → slice_get xs w ≡ Some x)
-    → (w : ℕ) → w < v + 1 → slice_get (set xs v x) w ≡ Some x
-cleared_more xs x v inside so_far w below = go (cases_eq w v)
-  where
-    go : (w ≡ v) ⊎ (w ≡ v → ⊥) → slice_get (set xs v x) w ≡ Some x
-    go (inl e) = ap (slice_get (set xs v x)) e ∙ nth_set_same xs v x inside
-    go (inr e) = nth_set_other xs v w x e ∙ so_far w (omega arith)
 
 module _ {E S K : Type 0} (M : Model E S) (means : K → S) (n : ℕ) (vars : List (Var K)) (pairs : List (Pair K)) (history : List (Undo K)) where
   opened_so : (cleared : List (Var K)) (r : Var K) (h : Held K) → None ≡ not_opened n vars pairs history → Fresh M means r
