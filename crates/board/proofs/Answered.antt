@@ -9,7 +9,7 @@ use Rattle.score.specs.declared.values.Four.{Four}
 use Rattle.score.specs.declared.values.Two.{Two}
 use Rattle.calls.specs.declared.refusals.Refusal.{Refusal}
 use Rattle.calls.specs.declared.refusals.Refusal.TheVariants.{NoChange}
-use Rattle.calls.specs.Entries.{FourScored}
+use Rattle.calls.specs.Entries.{TwoScored, FourScored}
 use Rattle.calls.specs.Questions.{View, Question, view_of, first_no, refusal_in, change_questions, back_questions, most_pairs}
 use Rattle.calls.specs.Runs.{without_last}
 use Rattle.calls.specs.Standing.{Standing, more, count, kept_pairs, key, has_key}
@@ -95,14 +95,14 @@ module _ {E S K : Type 0} (M : Model E S) (laws : Laws M) (means : K → S) wher
 
   module _ (J : K → K → K) (exact : (a b : K) → Together M (means a) (means b) → means (J a b) ≡ M.join (means a) (means b))
       (n : ℕ) (h : Held K) (cs : Standing E) (st : Stands M means n h cs) where
-    pub one_stands : (v : ℕ) (z o : E) (t : Two K) → M.score z ≡ Some (means t.zero) → M.score o ≡ Some (means t.one)
-        → first_no (change_questions M (view_of n cs) (One v z o)) ≡ None → Stands M means n (join_one J h v t) (more cs (One v z o))
-    one_stands v z o t zs os pass =
-        let below = (one_passed M (view_of n cs) v z o pass).below in
+    pub one_stands : (v : ℕ) (es : Two E) (t : Two K) → TwoScored M means es t
+        → first_no (change_questions M (view_of n cs) (One v es)) ≡ None → Stands M means n (join_one J h v t) (more cs (One v es))
+    one_stands v es t scored pass =
+        let below = (one_passed M (view_of n cs) v es pass).below in
         let r = (shows M means n h cs st).vars v below in
         let is = sym (ap (λ x. elim x [ None ↦ h | Some old ↦ replace_var h v old (joined_var J old t) ]) r.1) in
-        subst (λ h'. Stands M means n h' (more cs (One v z o))) is
-        (stands_more M means n h _ cs (One v z o) (undo_at v (WasVar r.0)) st pass (posted M laws means J exact n h cs st v z o t r.0 pass zs os r.1 r.2))
+        subst (λ h'. Stands M means n h' (more cs (One v es))) is
+        (stands_more M means n h _ cs (One v es) (undo_at v (WasVar r.0)) st pass (posted M laws means J exact n h cs st v es t r.0 pass scored r.1 r.2))
 
     pub pair_stands : (a b : ℕ) (es : Four E) (f : Four K) (place : Option ℕ) → FourScored M means es f → Place (key a b) (used h) place
         → first_no (change_questions M (view_of n cs) (PairPost a b es)) ≡ None → Stands M means n (join_pair J h (key a b) (lower_first a b f) place) (more cs (PairPost a b es))

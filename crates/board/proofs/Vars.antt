@@ -8,6 +8,7 @@ use Rattle.score.specs.Model.{Model, Laws, Of, Together}
 use Rattle.score.proofs.Entries.{of_one}
 use Rattle.calls.specs.declared.changes.Change.{Change}
 use Rattle.calls.specs.declared.changes.Change.TheVariants.{One, Pin, Free}
+use Rattle.calls.specs.Entries.{TwoScored}
 use Rattle.calls.specs.Questions.{view_of, first_no, change_questions, most_changes}
 use Rattle.calls.specs.Standing.{Standing, more, count, kept_pairs, pin_of, one_score, score_of}
 use Rattle.calls.proofs.Asked.{one_passed}
@@ -85,22 +86,22 @@ module _ {E S K : Type 0} (M : Model E S) (laws : Laws M) (means : K → S) (J :
       ∙ (λ i. M.join (is i) (score i))
 
   module _ (n : ℕ) (h : Held K) (cs : Standing E) (st : Stands M means n h cs) where
-    pub posted : (v : ℕ) (z o : E) (t : Two K) (old : Var K) → first_no (change_questions M (view_of n cs) (One v z o)) ≡ None
-        → M.score z ≡ Some (means t.zero) → M.score o ≡ Some (means t.one) → slice_get h.vars v ≡ Some old → VarShows M means n cs v old
-        → Written M means n h (replace_var h v old (joined_var J old t)) cs (One v z o) (undo_at v (WasVar old))
-    posted v z o t old pass zs os there sh =
-        let room = (one_passed M (view_of n cs) v z o pass).room in
-        let zero = joined_exactly (count cs) old.scores.zero t.zero _ z room sh.zero (one_of_count M laws n cs st.valid v false) zs in
-        let one = joined_exactly (count cs) old.scores.one t.one _ o room sh.one (one_of_count M laws n cs st.valid v true) os in
-        replaced M laws means n h cs st (One v z o) v old (joined_var J old t) there
+    pub posted : (v : ℕ) (es : Two E) (t : Two K) (old : Var K) → first_no (change_questions M (view_of n cs) (One v es)) ≡ None
+        → TwoScored M means es t → slice_get h.vars v ≡ Some old → VarShows M means n cs v old
+        → Written M means n h (replace_var h v old (joined_var J old t)) cs (One v es) (undo_at v (WasVar old))
+    posted v es t old pass scored there sh =
+        let room = (one_passed M (view_of n cs) v es pass).room in
+        let zero = joined_exactly (count cs) old.scores.zero t.zero _ es.zero room sh.zero (one_of_count M laws n cs st.valid v false) scored.at_zero in
+        let one = joined_exactly (count cs) old.scores.one t.one _ es.one room sh.one (one_of_count M laws n cs st.valid v true) scored.at_one in
+        replaced M laws means n h cs st (One v es) v old (joined_var J old t) there
         (record {
-          zero = zero ∙ sym (cond-true (eqb v v) (M.join (one_score M cs v false) (score_of M z)) (one_score M cs v false) (eq-eqb v v refl));
-          one = one ∙ sym (cond-true (eqb v v) (M.join (one_score M cs v true) (score_of M o)) (one_score M cs v true) (eq-eqb v v refl));
+          zero = zero ∙ sym (cond-true (eqb v v) (M.join (one_score M cs v false) (score_of M es.zero)) (one_score M cs v false) (eq-eqb v v refl));
+          one = one ∙ sym (cond-true (eqb v v) (M.join (one_score M cs v true) (score_of M es.one)) (one_score M cs v true) (eq-eqb v v refl));
           pin = sh.pin;
         })
         (λ w e r s. record {
-          zero = s.zero ∙ sym (cond-false (eqb v w) (M.join (one_score M cs w false) (score_of M z)) (one_score M cs w false) (ne_eqb v w (λ k. e (sym k))));
-          one = s.one ∙ sym (cond-false (eqb v w) (M.join (one_score M cs w true) (score_of M o)) (one_score M cs w true) (ne_eqb v w (λ k. e (sym k))));
+          zero = s.zero ∙ sym (cond-false (eqb v w) (M.join (one_score M cs w false) (score_of M es.zero)) (one_score M cs w false) (ne_eqb v w (λ k. e (sym k))));
+          one = s.one ∙ sym (cond-false (eqb v w) (M.join (one_score M cs w true) (score_of M es.one)) (one_score M cs w true) (ne_eqb v w (λ k. e (sym k))));
           pin = s.pin;
         })
         refl

@@ -40,7 +40,7 @@ module _ {E S K : Type 0} (M : Model E S) (means : K → S) (n : ℕ) where
 
     half_asks : (c : Change E) → first_no (change_questions M half c) ≡ first_no (change_questions M (view_of n cs) c)
     unfolding half
-    half_asks (One v z o) = refl
+    half_asks (One v es) = refl
     half_asks (Pair a b es) = refl
     half_asks (Pin v x) =
         under (ltb v n) NoVariable _ _ (λ p. (ltb x 2, Value) ∷ (not (is_some p), Pinned) ∷ (ltb (count cs) most_changes, HistoryFull) ∷ []) (λ t. pin_same v (ltb-true v n t))

@@ -7,7 +7,7 @@ use records::variables::Var;
 use score::interface::Kind;
 use score::margins::{Slack, Worst};
 use score::totals::{Access, Total};
-use score::values::Four;
+use score::values::{Four, Two};
 use std::alloc::{AllocError, Global};
 use std::fmt::Display;
 use std::test::Fail;
@@ -61,6 +61,10 @@ fn access(hits: u32, cycles: i32) -> Access {
     Access { hits, cycles }
 }
 
+fn two<E>(zero: E, one: E) -> Two<E> {
+    Two { zero, one }
+}
+
 fn four(at00: Access, at01: Access, at10: Access, at11: Access) -> Four<Access> {
     Four {
         at00,
@@ -82,7 +86,7 @@ fn accepted(reply: Result<(), Refusal>) -> Result<(), Fail> {
 
 fn fill(board: &mut Board<'_, Total>) -> Result<(), Fail> {
     for _ in 0..1_024 {
-        accepted(board.one(0, access(u32::MAX, 65_535), access(u32::MAX, -65_535)))?;
+        accepted(board.one(0, two(access(u32::MAX, 65_535), access(u32::MAX, -65_535))))?;
     }
     Ok(())
 }
@@ -139,8 +143,8 @@ fn refusals_in_order(rt: HostRuntime) -> Result<(), Fail> {
     let mut records = make_records::<Total>(heap)?;
     let bad = access(1, 65_536);
     let mut board = Board::open(2, records.lend());
-    assert!(rt; number(board.one(2, bad, bad)) == 4);
-    assert!(rt; number(board.one(1, access(1, 1), bad)) == 7);
+    assert!(rt; number(board.one(2, two(bad, bad))) == 4);
+    assert!(rt; number(board.one(1, two(access(1, 1), bad))) == 7);
     assert!(rt; number(board.pair(2, 2, four(bad, bad, bad, bad))) == 4);
     assert!(rt; number(board.pair(1, 1, four(bad, bad, bad, bad))) == 5);
     assert!(rt; number(board.pair(1, 0, four(bad, bad, bad, bad))) == 7);
@@ -179,8 +183,8 @@ fn worst_taken_back(rt: HostRuntime) -> Result<(), Fail> {
     let heap = rt.alloc();
     let mut records = make_records::<Worst>(heap)?;
     let mut board = Board::open(1, records.lend());
-    assert!(rt; number(board.one(0, slack(6), slack(3))) == 0);
-    assert!(rt; number(board.one(0, slack(-9), slack(8))) == 0);
+    assert!(rt; number(board.one(0, two(slack(6), slack(3)))) == 0);
+    assert!(rt; number(board.one(0, two(slack(-9), slack(8)))) == 0);
     let low = text(heap, &board, &[0])?;
     assert!(rt; low.as_str() == "-9");
     assert!(rt; number(board.back()) == 0);

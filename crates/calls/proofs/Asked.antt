@@ -5,6 +5,7 @@ use Rattle.score.specs.Model.{Model}
 use Rattle.calls.specs.declared.changes.Change.{Change}
 use Rattle.calls.specs.declared.changes.Change.TheVariants.{One, Pair, Pin, Free}
 use Rattle.score.specs.declared.values.Four.{Four}
+use Rattle.score.specs.declared.values.Two.{Two}
 use Rattle.calls.specs.Questions.{View, Question, first_no, change_questions, takes, takes_four, most_changes, most_pairs}
 use Rattle.calls.specs.Standing.{key, has_key}
 
@@ -22,16 +23,16 @@ all_yes (q ∷ qs) h = go q.0 refl h (all_yes qs)
     go false e k rest = let z : ◌≡◌ {A = ℕ} 0 1 = cc in absurd (omega arith)
 
 module _ {E S : Type 0} (M : Model E S) (w : View) where
-  pub record OnePassed (v : ℕ) (z o : E) : Type 0 where
+  pub record OnePassed (v : ℕ) (es : Two E) : Type 0 where
     pub below : v < w.n
-    pub zero_taken : takes M z ≡ true
-    pub one_taken : takes M o ≡ true
+    pub zero_taken : takes M es.zero ≡ true
+    pub one_taken : takes M es.one ≡ true
     pub room : w.standing < most_changes
 
-  pub one_passed : (v : ℕ) (z o : E) → first_no (change_questions M w (One v z o)) ≡ None → OnePassed v z o
-  one_passed v z o h =
-      let yes' = all_yes (change_questions M w (One v z o)) h in
-      let both = and_parts (takes M z) (takes M o) yes'.1.0 in
+  pub one_passed : (v : ℕ) (es : Two E) → first_no (change_questions M w (One v es)) ≡ None → OnePassed v es
+  one_passed v es h =
+      let yes' = all_yes (change_questions M w (One v es)) h in
+      let both = and_parts (takes M es.zero) (takes M es.one) yes'.1.0 in
       record { below = ltb-true v w.n yes'.0; zero_taken = both.0; one_taken = both.1; room = ltb-true w.standing most_changes yes'.1.1.0 }
 
   pub record PairPassed (a b : ℕ) (es : Four E) : Type 0 where
@@ -57,7 +58,7 @@ module _ {E S : Type 0} (M : Model E S) (w : View) where
 
   -- every accepted change found room in the history
   pub change_room : (c : Change E) → first_no (change_questions M w c) ≡ None → w.standing < most_changes
-  change_room (One v z o) h = (one_passed v z o h).room
+  change_room (One v es) h = (one_passed v es h).room
   change_room (Pair a b es) h = (pair_passed a b es h).room
   change_room (Pin v x) h = ltb-true w.standing most_changes (all_yes (change_questions M w (Pin v x)) h).1.1.1.0
   change_room (Free v) h = ltb-true w.standing most_changes (all_yes (change_questions M w (Free v)) h).1.1.0

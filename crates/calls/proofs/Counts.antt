@@ -11,9 +11,10 @@ use Rattle.score.specs.declared.values.Four.{Four}
 use Rattle.calls.specs.Posts.{Valid, selected}
 use Rattle.calls.specs.Questions.{view_of, takes, takes_four}
 use Rattle.calls.specs.Standing.{Standing, fresh, more, count, posted_at, score_of, one_score, pair_score, key, same_key, kept_pairs, variables}
-use Rattle.score.specs.Values.{at_four}
+use Rattle.score.specs.Values.{at_four, at_two}
 use Rattle.calls.proofs.Asked.{one_passed, pair_passed, change_room}
 use Rattle.calls.proofs.OverPosts.{over_posts_within, valid_in_range}
+use Rattle.score.specs.declared.values.Two.{Two}
 
 -- the kind that counts entries
 abbrev pub counting : {E : Type 0} → Model E ℕ
@@ -62,16 +63,16 @@ module _ {E S : Type 0} (M : Model E S) (laws : Laws M) where
   of_touched true m a s p q = of_sum M laws m 1 a s p q
   of_touched false m a s p q = p
 
-  one_taken : (z o : E) → takes M z ≡ true → takes M o ≡ true → (x : Bool) → Of M 1 (score_of M (cond x o z))
-  one_taken z o p q true = taken_of_one o q
-  one_taken z o p q false = taken_of_one z p
+  one_taken : (es : Two E) → takes M es.zero ≡ true → takes M es.one ≡ true → (x : Bool) → Of M 1 (score_of M (at_two es x))
+  one_taken es p q true = taken_of_one es.one q
+  one_taken es p q false = taken_of_one es.zero p
 
   -- a variable's score is of as many entries as were posted onto it
   one_of : (n : ℕ) (cs : Standing E) → Valid M n cs → (w : ℕ) (x : Bool) → Of M (one_score counting cs w x) (one_score M cs w x)
   one_of n fresh h w x = of_none M
-  one_of n (more cs (One v z o)) h w x =
-      let p = one_passed M (view_of n cs) v z o h.1 in
-      of_touched (eqb v w) _ _ _ (one_of n cs h.0 w x) (one_taken z o p.zero_taken p.one_taken x)
+  one_of n (more cs (One v es)) h w x =
+      let p = one_passed M (view_of n cs) v es h.1 in
+      of_touched (eqb v w) _ _ _ (one_of n cs h.0 w x) (one_taken es p.zero_taken p.one_taken x)
   one_of n (more cs (Pair a b es)) h w x = one_of n cs h.0 w x
   one_of n (more cs (Pin v y)) h w x = one_of n cs h.0 w x
   one_of n (more cs (Free v)) h w x = one_of n cs h.0 w x
@@ -85,7 +86,7 @@ module _ {E S : Type 0} (M : Model E S) (laws : Laws M) where
 
   pair_of : (n : ℕ) (cs : Standing E) → Valid M n cs → (p : ℕ × ℕ) (x y : Bool) → Of M (pair_score counting cs p x y) (pair_score M cs p x y)
   pair_of n fresh h p x y = of_none M
-  pair_of n (more cs (One v z o)) h p x y = pair_of n cs h.0 p x y
+  pair_of n (more cs (One v es)) h p x y = pair_of n cs h.0 p x y
   pair_of n (more cs (Pair a b es)) h p x y =
       of_touched (same_key (key a b) p) _ _ _ (pair_of n cs h.0 p x y) (posted_taken a b es (pair_passed M (view_of n cs) a b es h.1).taken x y)
   pair_of n (more cs (Pin v z)) h p x y = pair_of n cs h.0 p x y
@@ -103,21 +104,21 @@ module _ {E S : Type 0} (M : Model E S) (laws : Laws M) where
 -- as many entries as changes stand, at the most
 selected_few : {E : Type 0} (cs : Standing E) (L : ℕ → Bool) → joined (counting {E = E}) (selected counting cs L) ≤ count cs
 selected_few fresh L = omega arith
-selected_few (more cs (One v z o)) L = omega (arith, selected_few cs L)
+selected_few (more cs (One v es)) L = omega (arith, selected_few cs L)
 selected_few (more cs (Pair a b es)) L = omega (arith, selected_few cs L)
 selected_few (more cs (Pin v x)) L = omega (arith, selected_few cs L)
 selected_few (more cs (Free v)) L = omega (arith, selected_few cs L)
 
 one_few : {E : Type 0} (cs : Standing E) (w : ℕ) (x : Bool) → one_score (counting {E = E}) cs w x ≤ count cs
 one_few fresh w x = omega arith
-one_few (more cs (One v z o)) w x = let rest = one_few cs w x in cond_both (eqb v w) _ _ (λ m. m ≤ suc (count cs)) (λ e. omega (arith, rest)) (λ e. omega (arith, rest))
+one_few (more cs (One v es)) w x = let rest = one_few cs w x in cond_both (eqb v w) _ _ (λ m. m ≤ suc (count cs)) (λ e. omega (arith, rest)) (λ e. omega (arith, rest))
 one_few (more cs (Pair a b es)) w x = omega (arith, one_few cs w x)
 one_few (more cs (Pin v y)) w x = omega (arith, one_few cs w x)
 one_few (more cs (Free v)) w x = omega (arith, one_few cs w x)
 
 pair_few : {E : Type 0} (cs : Standing E) (p : ℕ × ℕ) (x y : Bool) → pair_score (counting {E = E}) cs p x y ≤ count cs
 pair_few fresh p x y = omega arith
-pair_few (more cs (One v z o)) p x y = omega (arith, pair_few cs p x y)
+pair_few (more cs (One v es)) p x y = omega (arith, pair_few cs p x y)
 pair_few (more cs (Pair a b es)) p x y =
     let rest = pair_few cs p x y in cond_both (same_key (key a b) p) _ _ (λ m. m ≤ suc (count cs)) (λ e. omega (arith, rest)) (λ e. omega (arith, rest))
 pair_few (more cs (Pin v z)) p x y = omega (arith, pair_few cs p x y)

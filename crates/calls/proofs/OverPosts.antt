@@ -10,7 +10,7 @@ use Rattle.score.specs.declared.values.Four.{Four}
 use Rattle.calls.specs.Posts.{Valid, selected, OverPosts}
 use Rattle.calls.specs.Questions.{view_of}
 use Rattle.calls.specs.Standing.{Standing, fresh, more, posted_at, score_of, one_score, pair_score, key, same_key, has_key, kept_pairs, variables, layout_score, how_many}
-use Rattle.score.specs.Values.{at_four}
+use Rattle.score.specs.Values.{at_four, at_two}
 use Rattle.calls.proofs.Asked.{one_passed}
 
 or_false : (a : Bool) → (a || false) ≡ a
@@ -66,7 +66,7 @@ module _ {E : Type 0} where
   -- each kept pair is kept once
   pub kept_once : (cs : Standing E) (k : ℕ × ℕ) → how_many (same_key k) (kept_pairs cs) ≡ cond (has_key k (kept_pairs cs)) 1 0
   kept_once fresh k = refl
-  kept_once (more cs (One v z o)) k = kept_once cs k
+  kept_once (more cs (One v es)) k = kept_once cs k
   kept_once (more cs (Pair a b es)) k = go (has_key (key a b) (kept_pairs cs)) refl (kept_once cs k)
     where
       pushed : (t u : Bool) (m : ℕ) → m ≡ cond t 1 0 → (u ≡ true → t ≡ false) → m + (cond u 1 0 + 0) ≡ cond (t || u) 1 0
@@ -89,7 +89,7 @@ module _ {E S : Type 0} (M : Model E S) where
   -- a pair that is not kept has neutral scores
   pub unkept_neutral : (cs : Standing E) (k : ℕ × ℕ) (x y : Bool) → has_key k (kept_pairs cs) ≡ false → pair_score M cs k x y ≡ M.neutral
   unkept_neutral fresh k x y h = refl
-  unkept_neutral (more cs (One v z o)) k x y h = unkept_neutral cs k x y h
+  unkept_neutral (more cs (One v es)) k x y h = unkept_neutral cs k x y h
   unkept_neutral (more cs (Pair a b es)) k x y h =
       let parts = or_parts (has_key k (kept_pairs cs)) (same_key (key a b) k) (sym (kept_after cs a b es k) ∙ h) in
       cond-false (same_key (key a b) k) _ _ parts.1 ∙ unkept_neutral cs k x y parts.0
@@ -99,14 +99,14 @@ module _ {E S : Type 0} (M : Model E S) where
 -- each variable that is posted onto is one of the n
 abbrev pub InRange : {E : Type 0} → ℕ → Standing E → Type 0
 InRange n fresh = Unit {0}
-InRange n (more cs (One v z o)) = InRange n cs × (v < n)
+InRange n (more cs (One v es)) = InRange n cs × (v < n)
 InRange n (more cs (Pair a b es)) = InRange n cs
 InRange n (more cs (Pin v x)) = InRange n cs
 InRange n (more cs (Free v)) = InRange n cs
 
 pub valid_in_range : {E S : Type 0} (M : Model E S) (n : ℕ) (cs : Standing E) → Valid M n cs → InRange n cs
 valid_in_range M n fresh h = tt
-valid_in_range M n (more cs (One v z o)) h = (valid_in_range M n cs h.0, (one_passed M (view_of n cs) v z o h.1).below)
+valid_in_range M n (more cs (One v es)) h = (valid_in_range M n cs h.0, (one_passed M (view_of n cs) v es h.1).below)
 valid_in_range M n (more cs (Pair a b es)) h = valid_in_range M n cs h.0
 valid_in_range M n (more cs (Pin v x)) h = valid_in_range M n cs h.0
 valid_in_range M n (more cs (Free v)) h = valid_in_range M n cs h.0
@@ -197,12 +197,12 @@ module _ {E S : Type 0} (M : Model E S) (laws : Laws M) where
       neutrals : (xs : List ℕ) → joined M (map (λ v. M.neutral) xs) ≡ M.neutral
       neutrals [] = refl
       neutrals (x ∷ xs) = laws.unit _ ∙ neutrals xs
-  over_posts_within n (more cs (One v z o)) valid L =
+  over_posts_within n (more cs (One v es)) valid L =
       let below = valid.1 in
-      let post = score_of M (cond (L v) o z) in
+      let post = score_of M (at_two es (L v)) in
       let once : how_many (eqb v) (variables n) ≡ 1 = once_below v n ∙ cond-true (ltb v n) 1 0 (lt-ltb v n below) in
-      let here : (w : ℕ) → eqb v w ≡ true → score_of M (cond (L w) o z) ≡ post = λ w h. ap (λ u. score_of M (cond (L u) o z)) (sym (eqb-true v w h)) in
-      let ones = joined_touched (eqb v) (λ w. score_of M (cond (L w) o z)) (λ w. one_score M cs w (L w)) post here (variables n) once in
+      let here : (w : ℕ) → eqb v w ≡ true → score_of M (at_two es (L w)) ≡ post = λ w h. ap (λ u. score_of M (at_two es (L u))) (sym (eqb-true v w h)) in
+      let ones = joined_touched (eqb v) (λ w. score_of M (at_two es (L w))) (λ w. one_score M cs w (L w)) post here (variables n) once in
       joined_append M laws _ (map (λ p. pair_score M cs p (L p.0) (L p.1)) (kept_pairs cs))
       ∙ ap (λ s. M.join s (joined M (map (λ p. pair_score M cs p (L p.0) (L p.1)) (kept_pairs cs)))) ones
       ∙ swap _ post _

@@ -1,20 +1,20 @@
 -- The scores of the entries that are posted. Assumes nothing.
-use Rattle.std.specs.Prelude.{◌≡◌, Bool, true, false, ◌&&◌, Some, None, Option}
+use Rattle.std.specs.Prelude.{◌≡◌, Bool, true, false, Some, None, Option}
 use Rattle.score.specs.Model.{Model}
 use Rattle.score.specs.declared.values.Four.{Four}
 use Rattle.score.specs.declared.values.Two.{Two}
-use Rattle.calls.specs.Questions.{takes, takes_four}
+use Rattle.calls.specs.Questions.{takes_two, takes_four}
 use Rattle.score.specs.Values.{at_four}
 
 module _ {E S K : Type 0} (M : Model E S) (means : K → S) where
   -- two entries have these scores
-  pub record TwoScored (zero one : E) (t : Two K) : Type 0 where
-    pub at_zero : M.score zero ≡ Some (means t.zero)
-    pub at_one : M.score one ≡ Some (means t.one)
+  pub record TwoScored (es : Two E) (t : Two K) : Type 0 where
+    pub at_zero : M.score es.zero ≡ Some (means t.zero)
+    pub at_one : M.score es.one ≡ Some (means t.one)
 
-  abbrev pub TwoTaken : E → E → Option (Two K) → Type 0
-  TwoTaken z o None = (takes M z && takes M o) ≡ false
-  TwoTaken z o (Some t) = ((takes M z && takes M o) ≡ true) × TwoScored z o t
+  abbrev pub TwoTaken : Two E → Option (Two K) → Type 0
+  TwoTaken es None = takes_two M es ≡ false
+  TwoTaken es (Some t) = (takes_two M es ≡ true) × TwoScored es t
 
   -- four entries have these scores
   abbrev pub FourScored : Four E → Four K → Type 0

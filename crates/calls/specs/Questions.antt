@@ -5,6 +5,7 @@ use Rattle.score.specs.Model.{Model}
 use Rattle.calls.specs.declared.changes.Change.{Change}
 use Rattle.calls.specs.declared.changes.Change.TheVariants.{One, Pair, Pin, Free}
 use Rattle.score.specs.declared.values.Four.{Four}
+use Rattle.score.specs.declared.values.Two.{Two}
 use Rattle.calls.specs.declared.refusals.Refusal.{Refusal}
 use Rattle.calls.specs.declared.refusals.Refusal.TheVariants.{Variables, Memory, LayoutLength, NoVariable, SameVariable, Value, Entry, Pinned, NotPinned, NoChange, PinBroken, HistoryFull, PairsFull}
 use Rattle.calls.specs.Standing.{Standing, count, kept_pairs, pin_of, key, has_key}
@@ -44,6 +45,9 @@ refusal_in (Err f) = Some f
 
 abbrev pub takes : {E S : Type 0} → Model E S → E → Bool
 takes M e = is_some (M.score e)
+
+abbrev pub takes_two : {E S : Type 0} → Model E S → Two E → Bool
+takes_two M es = takes M es.zero && takes M es.one
 
 abbrev pub takes_four : {E S : Type 0} → Model E S → Four E → Bool
 takes_four M es = takes M es.at00 && (takes M es.at01 && (takes M es.at10 && takes M es.at11))
@@ -91,7 +95,7 @@ free_questions n standing v pin =
     ∷ []
 
 abbrev pub change_questions : {E S : Type 0} → Model E S → View → Change E → List Question
-change_questions M w (One v z o) = one_questions w.n w.standing v (takes M z && takes M o)
+change_questions M w (One v es) = one_questions w.n w.standing v (takes_two M es)
 change_questions M w (Pair a b es) = pair_questions w.n w.standing w.kept a b (takes_four M es) (has_key (key a b) w.keys)
 change_questions M w (Pin v x) = pin_questions w.n w.standing v x (w.pin v)
 change_questions M w (Free v) = free_questions w.n w.standing v (w.pin v)

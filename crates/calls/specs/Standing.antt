@@ -5,7 +5,7 @@ use Rattle.score.specs.Model.{Model, joined}
 use Rattle.calls.specs.declared.changes.Change.{Change}
 use Rattle.calls.specs.declared.changes.Change.TheVariants.{One, Pair, Pin, Free}
 use Rattle.score.specs.declared.values.Four.{Four}
-use Rattle.score.specs.Values.{at_four}
+use Rattle.score.specs.Values.{at_four, at_two}
 
 -- The list of standing changes: empty on a fresh board, a change goes on at its end.
 pub data Standing (E : Type 0) : Type 0 where
@@ -30,7 +30,7 @@ has_key k (p ∷ ps) = same_key k p || has_key k ps
 -- the pairs that are kept, the lower variable first, in the order of their first posts
 abbrev pub kept_pairs : {E : Type 0} → Standing E → List (ℕ × ℕ)
 kept_pairs fresh = []
-kept_pairs (more cs (One v z o)) = kept_pairs cs
+kept_pairs (more cs (One v es)) = kept_pairs cs
 kept_pairs (more cs (Pair a b es)) = cond (has_key (key a b) (kept_pairs cs)) (kept_pairs cs) (kept_pairs cs ++ key a b ∷ [])
 kept_pairs (more cs (Pin v x)) = kept_pairs cs
 kept_pairs (more cs (Free v)) = kept_pairs cs
@@ -38,7 +38,7 @@ kept_pairs (more cs (Free v)) = kept_pairs cs
 -- a variable whose last standing pin or free is a pin is pinned at its value
 abbrev pub pin_of : {E : Type 0} → Standing E → ℕ → Option Bool
 pin_of fresh w = None
-pin_of (more cs (One v z o)) w = pin_of cs w
+pin_of (more cs (One v es)) w = pin_of cs w
 pin_of (more cs (Pair a b es)) w = pin_of cs w
 pin_of (more cs (Pin v x)) w = cond (v == w) (Some (x == 1)) (pin_of cs w)
 pin_of (more cs (Free v)) w = cond (v == w) None (pin_of cs w)
@@ -55,7 +55,7 @@ module _ {E S : Type 0} (M : Model E S) where
   -- the score of variable w at a value: its posts joined
   abbrev pub one_score : Standing E → ℕ → Bool → S
   one_score fresh w x = M.neutral
-  one_score (more cs (One v z o)) w x = cond (v == w) (M.join (one_score cs w x) (score_of (cond x o z))) (one_score cs w x)
+  one_score (more cs (One v es)) w x = cond (v == w) (M.join (one_score cs w x) (score_of (at_two es x))) (one_score cs w x)
   one_score (more cs (Pair a b es)) w x = one_score cs w x
   one_score (more cs (Pin v y)) w x = one_score cs w x
   one_score (more cs (Free v)) w x = one_score cs w x
@@ -63,7 +63,7 @@ module _ {E S : Type 0} (M : Model E S) where
   -- the score of a pair at the values of its lower and of its higher variable: its posts joined
   abbrev pub pair_score : Standing E → ℕ × ℕ → Bool → Bool → S
   pair_score fresh p x y = M.neutral
-  pair_score (more cs (One v z o)) p x y = pair_score cs p x y
+  pair_score (more cs (One v es)) p x y = pair_score cs p x y
   pair_score (more cs (Pair a b es)) p x y = cond (same_key (key a b) p) (M.join (pair_score cs p x y) (score_of (posted_at a b es x y))) (pair_score cs p x y)
   pair_score (more cs (Pin v z)) p x y = pair_score cs p x y
   pair_score (more cs (Free v)) p x y = pair_score cs p x y

@@ -1,9 +1,9 @@
 // Changes to a board, and calls on one.
-use score::values::Four;
+use score::values::{Four, Two};
 
 #[derive(Clone, Copy)]
 pub enum Change<E> {
-    One { v: u32, zero: E, one: E },
+    One { v: u32, entries: Two<E> },
     Pair { a: u32, b: u32, entries: Four<E> },
     Pin { v: u32, value: u32 },
     Free { v: u32 },

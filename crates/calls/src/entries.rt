@@ -6,12 +6,12 @@ use score::interface::Kind;
 use score::values::{Four, Two};
 
 // The scores of two entries, or `None` where the kind does not take one of them.
-pub fn score_two<K: Kind>(zero: K::Entry, one: K::Entry) -> Option<Two<K>>
-    ensures { TwoTaken K.Kind.model K.Kind.means zero one result }
+pub fn score_two<K: Kind>(entries: Two<K::Entry>) -> Option<Two<K>>
+    ensures { TwoTaken K.Kind.model K.Kind.means entries result }
 {
     Some(Two {
-        zero: K::score(zero)?,
-        one: K::score(one)?,
+        zero: K::score(entries.zero)?,
+        one: K::score(entries.one)?,
     })
 }
 

@@ -8,15 +8,15 @@ ghost use Rattle.board.specs.Tables.{held, records_view, set_pin};
 use super::Board;
 use calls::refusals::Refusal;
 use score::interface::Kind;
-use score::values::Four;
+use score::values::{Four, Two};
 
 impl<'a, K: Kind> Board<'a, K> {
     // Joins two entries onto a variable's scores, at 0 and at 1.
-    pub fn one(&mut self, v: u32, zero: K::Entry, one: K::Entry) -> Result<(), Refusal>
-        ensures { Changed K.Kind.model K.Kind.means (held self.old) (held self.new) (One v zero one) result }
+    pub fn one(&mut self, v: u32, entries: Two<K::Entry>) -> Result<(), Refusal>
+        ensures { Changed K.Kind.model K.Kind.means (held self.old) (held self.new) (One v entries) result }
     {
-        let post = self.check_one(v, zero, one)?;
-        self.join_one(v as usize, post);
+        let scores = self.check_one(v, entries)?;
+        self.join_one(v as usize, scores);
         Ok(())
     }
 

@@ -1,6 +1,6 @@
 // The questions before a change, put to the records.
 ghost use Rattle.std.specs.Prelude.{◌≡◌, IfOk, Some};
-ghost use Rattle.calls.specs.Entries.{FourScored};
+ghost use Rattle.calls.specs.Entries.{TwoScored, FourScored};
 ghost use Rattle.calls.specs.Questions.{first_no, refusal_in, change_questions, back_questions};
 ghost use Rattle.calls.specs.Standing.{key};
 ghost use Rattle.calls.specs.declared.changes.Change.TheVariants.{One, Pair, Pin, Free};
@@ -21,12 +21,11 @@ pub(super) struct PairPost<K> {
 }
 
 impl<'a, K: Kind> Board<'a, K> {
-    pub(super) fn check_one(&self, v: u32, zero: K::Entry, one: K::Entry) -> Result<Two<K>, Refusal>
-        ensures reply { refusal_in result ≡ first_no (change_questions K.Kind.model (records_view (held self.now)) (One v zero one)) }
-        ensures zero { IfOk result (λ s. K.Kind.model.score zero ≡ Some (K.Kind.means s.zero)) }
-        ensures one { IfOk result (λ s. K.Kind.model.score one ≡ Some (K.Kind.means s.one)) }
+    pub(super) fn check_one(&self, v: u32, entries: Two<K::Entry>) -> Result<Two<K>, Refusal>
+        ensures reply { refusal_in result ≡ first_no (change_questions K.Kind.model (records_view (held self.now)) (One v entries)) }
+        ensures scores { IfOk result (λ s. TwoScored K.Kind.model K.Kind.means entries s) }
     {
-        self.counts.ask_one(v, score_two::<K>(zero, one))
+        self.counts.ask_one(v, score_two::<K>(entries))
     }
 
     pub(super) fn check_pair(

@@ -15,7 +15,7 @@ impl<'a, K: Kind> Board<'a, K> {
         ensures { Changed K.Kind.model K.Kind.means (held self.old) (held self.new) change result }
     {
         match change {
-            Change::One { v, zero, one } => self.one(v, zero, one),
+            Change::One { v, entries } => self.one(v, entries),
             Change::Pair { a, b, entries } => self.pair(a, b, entries),
             Change::Pin { v, value } => self.pin(v, value),
             Change::Free { v } => self.free(v),

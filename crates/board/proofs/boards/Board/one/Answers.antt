@@ -7,5 +7,5 @@ pub returns : goal.returns
 returns g c =
     let M = g.K.Kind.model in
     let means = g.K.Kind.means in
-    accepted M means (held c.args.self.now) _ _ (One c.args.v c.args.zero c.args.one) c.in_ok-post.ensures.reply c.join_one.ensures
-    (λ n cs st pass. one_stands M g.met.K.Kind.lawful means g.K.Kind.held g.met.K.Kind.exact n _ cs st c.args.v _ _ _ c.in_ok-post.ensures.zero c.in_ok-post.ensures.one pass)
+    accepted M means (held c.args.self.now) _ _ (One c.args.v c.args.entries) c.in_ok-scores.ensures.reply c.join_one.ensures
+    (λ n cs st pass. one_stands M g.met.K.Kind.lawful means g.K.Kind.held g.met.K.Kind.exact n _ cs st c.args.v c.args.entries _ c.in_ok-scores.ensures.scores pass)
