@@ -11,7 +11,7 @@ abbrev pub four : {E : Type 0} → E → E → E → E → Four E
 four a b c d = record { at00 = a; at01 = b; at10 = c; at11 = d }
 
 abbrev pub call_of : {E : Type 0} → Command E → Call E
-call_of (OneLine v z o) = Post (One v z o)
+call_of (OneLine v z o) = Post (One v (record { zero = z; one = o }))
 call_of (PairLine a b e00 e01 e10 e11) = Post (Pair a b (four e00 e01 e10 e11))
 call_of (PinLine v x) = Post (Pin v x)
 call_of (FreeLine v) = Post (Free v)

@@ -10,10 +10,10 @@ ghost use Rattle.console.specs.Spelled.{call_of, layout_of, digit_value};
 use board::boards::Board;
 use calls::answers::Answer;
 use calls::changes::{Call, Change};
-use score::values::Four;
 use calls::refusals::Refusal;
 use listing::commands::Command;
 use score::interface::Kind;
+use score::values::{Four, Two};
 use std::alloc::{AllocError, Global};
 
 const ZERO: u8 = b'0';
@@ -29,8 +29,10 @@ fn spelled<'a, E: Copy>(command: &Command<'a, E>) -> Call<E>
             one,
         } => Call::Post(Change::One {
             v: *variable,
-            zero: *zero,
-            one: *one,
+            entries: Two {
+                zero: *zero,
+                one: *one,
+            },
         }),
         Command::Pair {
             first,
@@ -63,11 +65,10 @@ fn spelled<'a, E: Copy>(command: &Command<'a, E>) -> Call<E>
 fn digit_values(heap: Global, digits: &[u8]) -> Result<Vec<u8>, AllocError>
     ensures { IfOk result (λ v. v.items ≡ map digit_value digits.now) }
 {
-    let mut values = Vec::new(heap);
-    for digit in digits {
-        values.push(digit.saturating_sub(ZERO))?;
-    }
-    Ok(values)
+    digits
+        .iter()
+        .map(|digit| digit.saturating_sub(ZERO))
+        .collect(heap)
 }
 
 // Sends a command to the board. Only a score's layout wants memory; without it the board is as found.
