@@ -12,7 +12,7 @@ use records::history::Undo;
 use records::pairs::Pair;
 use records::variables::Var;
 
-// The records that a board is lent.
+// The records that a board is lent, read and written at any index: there is no heap, so how many are in use is counted beside.
 #[derive(Drop)]
 pub struct Memory<'a, K> {
     pub vars: &'a mut [Var<K>],

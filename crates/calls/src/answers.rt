@@ -3,6 +3,7 @@ ghost use Rattle.calls.specs.Answers.{answer_text};
 
 use std::fmt;
 
+// No Option: it prints.
 #[derive(Clone, Copy)]
 pub enum Answer<K> {
     Done,

@@ -5,6 +5,7 @@ use score::values::{Four, Two};
 pub enum Change<E> {
     One { v: u32, entries: Two<E> },
     Pair { a: u32, b: u32, entries: Four<E> },
+    // the value as asked for: any but 0 and 1 is turned down
     Pin { v: u32, value: u32 },
     Free { v: u32 },
 }

@@ -16,11 +16,14 @@ use score::margins::Worst;
 use score::tiers::Tiered;
 use score::totals::Total;
 use std::fmt::Display;
-use std::io;
 use std::io::Read;
+use std::{io, iter};
 
 // One byte more than a listing may have.
 const MOST_BYTES: u64 = 65_537;
+
+// No listing has more lines.
+const MOST_LINES: usize = 65_536;
 
 // Memory for one board.
 const VARIABLES: usize = 64;
@@ -45,17 +48,13 @@ fn session<K: Kind + Display>(
 where
     K::Entry: EntryFields,
 {
-    for _ in 0..MOST_BYTES {
-        match reader.command::<K::Entry>() {
-            Ok(None) => return Ok(()),
-            Ok(Some(command)) => match answer(rt.alloc(), board, command)? {
+    for command in iter::from_fn(|| reader.command::<K::Entry>().transpose()).take(MOST_LINES) {
+        match command {
+            Ok(command) => match answer(rt.alloc(), board, command)? {
                 Ok(reply) => println!(rt; "{reply}")?,
                 Err(refusal) => println!(rt; "{refusal}")?,
             },
-            Err(fault) => {
-                let bad = fault.reply();
-                println!(rt; "{bad}")?;
-            }
+            Err(fault) => println!(rt; "{}", fault.reply())?,
         }
     }
     Ok(())
@@ -92,10 +91,7 @@ fn main(rt: HostRuntime) -> io::Result<()> {
     let (opening, mut reader) = match Reader::open(&text) {
         Ok(Some(opened)) => opened,
         Ok(None) => return Ok(()),
-        Err(fault) => {
-            let bad = fault.reply();
-            return println!(rt; "{bad}");
-        }
+        Err(fault) => return println!(rt; "{}", fault.reply()),
     };
     let Opening { variables, kind } = opening;
     match kind {

@@ -4,7 +4,7 @@ ghost use Rattle.score.specs.Model.{better, BestOfTwo};
 
 use crate::interface::Kind;
 
-// Which of two scores was taken.
+// Which of two scores was taken. A flag and no enum: the score is there in both cases, and the flag is a variable's value.
 #[derive(Clone, Copy)]
 pub struct Choice<K> {
     pub score: K,

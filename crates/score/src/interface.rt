@@ -29,6 +29,7 @@ pub trait Kind: Copy {
     fn join(self, other: Self) -> Self
         ensures { result ≡ held self other };
 
+    // A question of each kind, and not std's order: it compares what scores stand for.
     fn at_most(self, other: Self) -> bool
         ensures { result ≡ model.«at_most» (means self) (means other) };
 

@@ -12,7 +12,7 @@ pub struct Slack {
     pub margin: i32,
 }
 
-// In this order: the neutral score is above every margin.
+// In this order: the neutral score is above every margin. No Option: its order has `None` below, and it does not print.
 #[derive(Clone, Copy, PartialEq, Eq, PartialOrd, Ord)]
 pub enum Worst {
     Margin(i32),

@@ -69,6 +69,7 @@ impl<K: Kind> Kind for Tiered<K> {
         }
     }
 
+    // Written out: a derived order would want one of the second kind, which has `at_most` alone.
     fn at_most(self, other: Tiered<K>) -> bool {
         if self.weight == other.weight {
             self.second.at_most(other.second)

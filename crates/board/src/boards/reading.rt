@@ -9,6 +9,7 @@ use records::history::Undo;
 use records::pairs::{Pair, place_of};
 use records::variables::Var;
 
+// One function for each table: the check covers no slice that is lent from a `&mut` receiver for reading.
 impl<'a, K: Copy> Board<'a, K> {
     pub(super) fn var_at(&self, v: usize) -> Option<Var<K>>
         ensures { result ≡ slice_get (held self.now).vars v }

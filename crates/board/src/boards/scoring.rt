@@ -36,7 +36,7 @@ fn pair_score<K: Kind>(pair: &Pair<K>, layout: &[u8]) -> K
     )
 }
 
-// Joins on the scores of the variables.
+// Joins on the scores of the variables. Scoring loops over the records, here with their index, which says the layout's byte.
 fn join_vars<K: Kind>(start: K, vars: &[Var<K>], layout: &[u8]) -> K
     ensures { JoinsOn K.Kind.model K.Kind.means (vars_at layout.now 0 vars.now) start [] result }
 {

@@ -22,6 +22,7 @@ impl<'a, K: Copy> Board<'a, K> {
         self.counts.changes = newest + 1;
     }
 
+    // The tables differ, and what their writes share is `note`.
     pub(super) fn replace_var(&mut self, v: usize, old: Var<K>, new: Var<K>)
         requires { self.old.counts.changes < most_changes }
         ensures { held self.new ≡ replace_var (held self.old) v old new }
