@@ -41,20 +41,12 @@ read_length : (bs : List ℕ) (ns : List Removal) → length (read_back bs ns) �
 read_length bs [] = refl
 read_length bs (n ∷ ns) = length-set (read_back bs ns) n.variable _ ∙ read_length bs ns
 
-pub read_from : (ns : List Removal) (bs : List ℕ) → ReadFrom ns bs (read_back bs ns)
+read_from : (ns : List Removal) (bs : List ℕ) → ReadFrom ns bs (read_back bs ns)
 read_from [] bs h = refl
 read_from (n ∷ ns) bs h =
     settled_is (read_back bs ns) n (subst (λ k. n.variable < k) (sym (read_length bs ns)) h.0)
     ∙ ap (λ l. put l n.variable (taken (way_of n.way) l)) (read_from ns bs h.1)
     ∙ sym (ap (λ ms. read ms (bank_at bs)) (reverse-cons (note_of n) (map note_of ns)) ∙ read_last (reverse (map note_of ns)) (note_of n) (bank_at bs))
 
--- a loop from the newest to the oldest: its start and its step
-pub back_start : (ns : List Removal) (bs : List ℕ) → bs ≡ read_back bs (drop (length ns) ns)
-back_start ns bs = ap (read_back bs) (sym (drop_all (length ns) ns (omega arith)))
-
-pub back_step : (ns : List Removal) (bs cur : List ℕ) (left : ℕ) (d : Removal) → 0 < left → left ≤ length ns → cur ≡ read_back bs (drop left ns)
-    → settled cur (get_or ns (left - 1) d) ≡ read_back bs (drop (left - 1) ns)
-back_step ns bs cur left d some below so_far =
-    let next : left - 1 + 1 ≡ left = omega arith in
-    ap (λ l. settled l (get_or ns (left - 1) d)) (so_far ∙ ap (λ k. read_back bs (drop k ns)) (sym next))
-    ∙ sym (ap (read_back bs) (drop_more ns (left - 1) d (omega arith)))
+pub reads : (ns : List Removal) (bs bs' : List ℕ) → bs' ≡ read_back bs ns → ReadFrom ns bs bs'
+reads ns bs bs' e = subst (ReadFrom ns bs) (sym e) (read_from ns bs)

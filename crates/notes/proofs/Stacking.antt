@@ -1,32 +1,56 @@
 -- The stack of notes and that of open splits are lists. Assumes nothing.
-use Rattle.std.proofs.Common.{◌≡◌, ℕ, ◌-◌, ◌<◌, ◌≤◌, true, false, eqb, ltb, length, take, set, sym, ap, ◌∙◌, subst, ⊎_elim, add-one, arith}
-use Rattle.std.proofs.lemmas.List.{length-set, take_more, take_more_set, take-take}
-use Rattle.std.proofs.lemmas.Bool.{cases_Bool, cond-true, cond-false, ltb-true, lt-ltb, le-ltb, ne_eqb, or_from}
-use Rattle.notes.specs.declared.splits.Splits.{Splits}
+use Rattle.std.proofs.Common.{◌≡◌, ℕ, ◌+◌, ◌-◌, ◌<◌, ◌≤◌, Bool, true, false, cond, ltb, List, [], ◌∷◌, ◌++◌, length, take, set, get_or, Some, None, Option, sym, refl, ap, ◌∙◌, subst, ⊎_elim, add-one, arith}
+use Rattle.std.specs.List.{slice_get}
+use Rattle.std.proofs.lemmas.List.{length-set, length-append, length-take, take_all, take_more, take_more_set, take-take}
+use Rattle.std.proofs.lemmas.Option.{slice_get-get_or}
+use Rattle.std.proofs.lemmas.Bool.{cases_Bool, cond-true, cond-false, ltb-true, lt-ltb}
+use Rattle.notes.specs.declared.splits.Split.{Split}
 use Rattle.notes.specs.Claims.{Stacks}
-use Rattle.notes.specs.Splits.{Bounded, opened, at_zero, at_one, no_top, newest, pushed, begun}
+use Rattle.notes.specs.Splits.{Bounded, at_zero, at_one, pushed, top_of, begun, popped}
 use Rattle.notes.specs.Stack.{notes_of}
+use Rattle.records.proofs.Lists.{take_set, nth_take, nth_below, nth_set_same}
 
-top_there : (s : Splits) → 0 < s.count → s.count ≤ 20 → no_top s ≡ false
-top_there s some most = or_from (eqb s.count 0) (ltb 20 s.count) (ne_eqb s.count 0 (λ e. omega (arith, e, some))) (le-ltb 20 s.count most)
+-- the newest of the first n, marked
+pub begun_at : (xs : List Split) (n k : ℕ) (d : Split) → k + 1 ≡ n → n ≤ length xs → take n (set xs k (at_one (get_or xs k d))) ≡ begun (take n xs)
+begun_at xs n k d last below =
+    let long : length (take n xs) - 1 ≡ k = omega (arith, length-take n xs) in
+    let top : top_of (take n xs) ≡ Some (get_or xs k d)
+    = ap (slice_get (take n xs)) long ∙ nth_take xs n k (omega arith) ∙ slice_get-get_or xs k d (omega arith) in
+    take_set xs n k (at_one (get_or xs k d))
+    ∙ ap (λ i. set (take n xs) i (at_one (get_or xs k d))) (sym long)
+    ∙ sym (ap (λ o. elim o [ None ↦ take n xs | Some p ↦ set (take n xs) (length (take n xs) - 1) (at_one p) ]) top)
 
-push_bounded : (s : Splits) (y n : ℕ) → Bounded s → Bounded (pushed s y n)
-push_bounded s y n b =
-    ⊎_elim
-    (λ (t : ltb s.count 20 ≡ true).
-    subst Bounded (sym (cond-true (ltb s.count 20) _ s t))
-    (record { table_is = length-set s.table s.count (at_zero y n) ∙ b.table_is; most = omega (arith, ltb-true s.count 20 t) }))
-    (λ (t : ltb s.count 20 ≡ false). subst Bounded (sym (cond-false (ltb s.count 20) _ s t)) b)
-    (cases_Bool (ltb s.count 20))
+pub marked_at : (xs : List Split) (n k : ℕ) (p : Split) → k + 1 ≡ n → n ≤ length xs → top_of (take n (set xs k p)) ≡ Some p
+marked_at xs n k p last below =
+    let long : length (take n (set xs k p)) - 1 ≡ k = omega (arith, length-take n (set xs k p), length-set xs k p) in
+    ap (slice_get (take n (set xs k p))) long ∙ nth_take (set xs k p) n k (omega arith) ∙ nth_set_same xs k p (omega arith)
 
-begun_bounded : (s : Splits) → Bounded s → Bounded (begun s)
-begun_bounded s b =
-    ⊎_elim
-    (λ (t : no_top s ≡ true). subst Bounded (sym (cond-true (no_top s) s _ t)) b)
-    (λ (t : no_top s ≡ false).
-    subst Bounded (sym (cond-false (no_top s) s _ t))
-    (record { table_is = length-set s.table (s.count - 1) (at_one (newest s)) ∙ b.table_is; most = b.most }))
-    (cases_Bool (no_top s))
+-- all but the newest, and the newest
+split_off : (s : List Split) → 0 < length s → s ≡ popped s ++ get_or s (length s - 1) (at_zero 0 0) ∷ []
+split_off s some =
+    sym (take_all (length s) s (omega arith)) ∙ ap (λ k. take k s) (omega arith) ∙ take_more s (length s - 1) (at_zero 0 0) (omega arith)
+
+begun_last : (s : List Split) (p : Split) → top_of s ≡ Some p → begun s ≡ popped s ++ at_one p ∷ []
+begun_last s p top =
+    let there : length s - 1 < length s = nth_below s (length s - 1) p top in
+    ap (λ o. elim o [ None ↦ s | Some q ↦ set s (length s - 1) (at_one q) ]) top
+    ∙ sym (take_all (length s) (set s (length s - 1) (at_one p)) (omega (arith, length-set s (length s - 1) (at_one p))))
+    ∙ ap (λ k. take k (set s (length s - 1) (at_one p))) (omega arith)
+    ∙ take_more_set s (length s - 1) (at_one p) there
+
+push_bounded : (s : List Split) (y n : ℕ) → Bounded s → Bounded (pushed s y n)
+push_bounded s y n h = go (ltb (length s) 20) refl
+  where
+    go : (t : Bool) → ltb (length s) 20 ≡ t → length (cond t (s ++ at_zero y n ∷ []) s) ≤ 20
+    go true e = omega (arith, ltb-true (length s) 20 e, length-append s (at_zero y n ∷ []))
+    go false e = h
+
+begun_bounded : (s : List Split) → Bounded s → Bounded (begun s)
+begun_bounded s h = go (top_of s)
+  where
+    go : (o : Option Split) → length {A = Split} (elim o [ None ↦ s | Some p ↦ set s (length s - 1) (at_one p) ]) ≤ 20
+    go None = h
+    go (Some p) = omega (arith, length-set s (length s - 1) (at_one p), h)
 
 pub stacks : Stacks
 stacks = record {
@@ -35,17 +59,12 @@ stacks = record {
       ∙ ap (λ k. take k (set h.table h.count n)) (sym (add-one h.count))
       ∙ take_more_set h.table h.count n room;
   note_fewer = λ h k few. ap (λ m. take m h.table) (omega arith) ∙ sym (take-take k h.count h.table few);
-  split_more = λ s y n b room.
-      ap opened (cond-true (ltb s.count 20) _ s (lt-ltb s.count 20 room))
-      ∙ ap (λ k. take k (set s.table s.count (at_zero y n))) (sym (add-one s.count))
-      ∙ take_more_set s.table s.count (at_zero y n) (omega (arith, b.table_is));
-  split_fewer = λ s b some.
-      ap (λ k. take k s.table) (omega arith) ∙ take_more s.table (s.count - 1) (at_zero 0 0) (omega (arith, b.table_is, b.most));
-  split_begun = λ s b some.
-      ap opened (cond-false (no_top s) s _ (top_there s some b.most))
-      ∙ ap (λ k. take k (set s.table (s.count - 1) (at_one (newest s)))) (omega arith)
-      ∙ take_more_set s.table (s.count - 1) (at_one (newest s)) (omega (arith, b.table_is, b.most));
+  split_more = λ s y n room. cond-true (ltb (length s) 20) (s ++ at_zero y n ∷ []) s (lt-ltb (length s) 20 room);
+  split_fewer = λ s some.
+      let last = length s - 1 in
+      (get_or s last (at_zero 0 0), slice_get-get_or s last (at_zero 0 0) (omega arith), split_off s some);
+  split_begun = begun_last;
   push_bounded = push_bounded;
   begun_bounded = begun_bounded;
-  pop_bounded = λ s b. record { table_is = b.table_is; most = omega (arith, b.most) };
+  pop_bounded = λ s h. omega (arith, length-take (length s - 1) s, h);
 }

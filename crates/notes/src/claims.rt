@@ -2,8 +2,8 @@
 ghost use Rattle.notes.specs.Claims.{Stacks};
 
 // The stack of notes and that of open splits are lists.
-pub fn stacks_are_lists() -> bool
+#[tactic(auto, using(crate::proofs::Stacking::stacks))]
+pub fn stacks_are_lists()
     ensures { Stacks }
 {
-    true
 }

@@ -5,16 +5,13 @@ ghost use Rattle.notes.specs.Removals.{way_of};
 ghost use Rattle.notes.specs.Layouts.{bank_at, settled, read_back, ReadFrom};
 
 use crate::removal::{Removal, Way};
-use records::access::{read, write};
+use records::access::write;
 
 // The value of a variable in a layout of bytes 0 and 1; 0 past its end.
 fn value_of(layout: &[u8], v: u32) -> bool
     ensures { result ≡ bank_at layout.now v }
 {
-    match read(layout, v as usize) {
-        Some(byte) => byte == 1,
-        None => false,
-    }
+    layout.get(v as usize).is_some_and(|byte| *byte == 1)
 }
 
 // The value that a removed variable takes, those removed after it standing as in the layout.
@@ -52,21 +49,20 @@ fn settle(layout: &mut [u8], note: Removal)
     ensures { layout.new ≡ settled layout.old note }
 {
     let value = value_taken(note.way, layout);
-    write(layout, note.variable as usize, if value { 1 } else { 0 });
+    write(layout, note.variable as usize, u8::from(value));
 }
 
 fn settle_all(layout: &mut [u8], notes: &[Removal])
     ensures { layout.new ≡ read_back layout.old notes.now }
 {
-    let mut left = notes.len();
-    while left > 0 {
-        left -= 1;
-        settle(layout, notes[left]);
+    for note in notes.iter().rev() {
+        settle(layout, *note);
     }
 }
 
 // Reads a layout from the notes, oldest first in the slice, newest first as they are read. A note of a variable past the
 // layout's end writes nothing.
+#[tactic(auto, using(crate::proofs::Reading::reads))]
 pub fn read_layout(notes: &[Removal], layout: &mut [u8])
     ensures written { layout.new ≡ read_back layout.old notes.now }
     ensures reads { ReadFrom notes.now layout.old layout.new }

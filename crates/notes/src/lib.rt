@@ -3,6 +3,7 @@
 #![tactic(auto)]
 
 pub mod claims;
+pub mod full;
 pub mod layouts;
 pub mod removal;
 pub mod splits;

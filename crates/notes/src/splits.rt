@@ -1,6 +1,10 @@
 // The open splits, the newest at the top.
-ghost use Rattle.std.specs.Prelude.{◌≡◌, not, [], nat_lt};
-ghost use Rattle.notes.specs.Splits.{Bounded, opened, pushed, begun, popped, top_of, no_top};
+ghost use Rattle.std.specs.Prelude.{◌≡◌, ◌≤◌, List, [], length, take, is_ok, is_some, nat_lt};
+ghost use Rattle.notes.specs.declared.splits.Split.{Split};
+ghost use Rattle.notes.specs.Splits.{Bounded, at_one, pushed, begun, popped, top_of};
+
+use crate::full::Full;
+use std::marker::Model;
 
 pub const MOST_SPLITS: usize = 20;
 
@@ -12,16 +16,34 @@ pub struct Split {
     pub begun: bool,
 }
 
+impl Split {
+    fn begin(&mut self)
+        ensures { self.new ≡ at_one self.old }
+    {
+        self.begun = true;
+    }
+}
+
+// A stack of splits in a table of its own: no heap, so the count stands beside it.
 #[derive(Drop)]
 pub struct Splits {
-    table: [Split; 20],
+    table: [Split; MOST_SPLITS],
     count: usize,
+}
+
+// Clauses see the open splits, the oldest first.
+impl Model for Splits {
+    ghost Value = { List Split };
+
+    ghost view = { λ s. take s.count s.table };
+
+    ghost invariant = { λ s. s.count ≤ 20 };
 }
 
 impl Splits {
     // Without an open split.
     pub fn new() -> Splits
-        ensures none { opened result ≡ [] }
+        ensures none { result ≡ [] }
         ensures bounded { Bounded result }
     {
         let none = Split {
@@ -30,63 +52,55 @@ impl Splits {
             begun: false,
         };
         Splits {
-            table: [none; 20],
+            table: [none; MOST_SPLITS],
             count: 0,
         }
     }
 
     // Opens a split at value 0. Where 20 are open, nothing changes.
-    pub fn push(&mut self, variable: u32, noted: usize) -> bool
+    pub fn push(&mut self, variable: u32, noted: usize) -> Result<(), Full>
         ensures pushed { self.new ≡ pushed self.old variable noted }
-        ensures room { result ≡ nat_lt self.old.count 20 }
+        ensures room { is_ok result ≡ nat_lt (length self.old) 20 }
     {
         let at = self.count;
-        if at < MOST_SPLITS {
-            self.table[at] = Split {
-                variable,
-                noted,
-                begun: false,
-            };
-            self.count = at + 1;
-            true
-        } else {
-            false
+        if at >= MOST_SPLITS {
+            return Err(Full);
         }
+        self.table[at] = Split {
+            variable,
+            noted,
+            begun: false,
+        };
+        self.count = at + 1;
+        Ok(())
     }
 
     // The newest.
     pub fn top(&self) -> Option<Split>
         ensures { result ≡ top_of self.now }
     {
-        if self.count == 0 || self.count > MOST_SPLITS {
-            return None;
-        }
-        Some(self.table[self.count - 1])
+        self.table.get(self.count.checked_sub(1)?).copied()
     }
 
-    // Notes in the newest that value 1 has begun.
-    pub fn begin_one(&mut self) -> bool
+    // Notes in the newest that value 1 has begun, and returns it as it then stands.
+    #[tactic(auto, using(crate::proofs::Stacking::begun_at, crate::proofs::Stacking::marked_at))]
+    pub fn begin_one(&mut self) -> Option<Split>
         ensures begun { self.new ≡ begun self.old }
-        ensures there { result ≡ not (no_top self.old) }
+        ensures there { result ≡ top_of self.new }
     {
-        if self.count == 0 || self.count > MOST_SPLITS {
-            return false;
-        }
-        let at = self.count - 1;
+        let at = self.count.checked_sub(1)?;
         let top = &mut self.table[at];
-        top.begun = true;
-        true
+        top.begin();
+        Some(*top)
     }
 
     // Takes the newest away.
-    pub fn pop(&mut self) -> bool
+    pub fn pop(&mut self) -> Option<Split>
         ensures popped { self.new ≡ popped self.old }
-        ensures there { result ≡ nat_lt 0 self.old.count }
+        ensures there { result ≡ top_of self.old }
     {
-        if self.count == 0 {
-            return false;
-        }
-        self.count -= 1;
-        true
+        let at = self.count.checked_sub(1)?;
+        self.count = at;
+        self.table.get(at).copied()
     }
 }

@@ -1,13 +1,14 @@
 // The notes of removals, the newest on top.
-ghost use Rattle.std.specs.Prelude.{◌≡◌, length, nat_lt};
+ghost use Rattle.std.specs.Prelude.{◌≡◌, length, is_ok, nat_lt};
 ghost use Rattle.notes.specs.Layouts.{read_back, ReadFrom};
 ghost use Rattle.notes.specs.Stack.{held_notes, no_notes, notes_of, push_note, cut_notes};
 
+use crate::full::Full;
 use crate::layouts::read_layout;
 use crate::removal::Removal;
 use records::access::{first, write};
 
-// A stack of notes in a lent table.
+// A stack of notes in a lent table. The memory is the caller's, so the count stands beside it.
 #[derive(Drop)]
 pub struct Notes<'a> {
     table: &'a mut [Removal],
@@ -23,18 +24,17 @@ impl<'a> Notes<'a> {
     }
 
     // Writes a note down. Where the table is full, nothing changes.
-    pub fn push(&mut self, note: Removal) -> bool
+    pub fn push(&mut self, note: Removal) -> Result<(), Full>
         ensures pushed { held_notes self.new ≡ push_note (held_notes self.old) note }
-        ensures room { result ≡ nat_lt (held_notes self.old).count (length (held_notes self.old).table) }
+        ensures room { is_ok result ≡ nat_lt (held_notes self.old).count (length (held_notes self.old).table) }
     {
         let at = self.count;
-        if at < self.table.len() {
-            write(self.table, at, note);
-            self.count = at + 1;
-            true
-        } else {
-            false
+        if at >= self.table.len() {
+            return Err(Full);
         }
+        write(self.table, at, note);
+        self.count = at + 1;
+        Ok(())
     }
 
     // How many notes are held.

@@ -1,9 +1,6 @@
-use Rattle.std.proofs.Common.{◌≡◌, ◌≤◌, length, drop}
+use Rattle.std.proofs.Common.{◌≡◌, map, reverse}
 use Rattle.notes.specs.Layouts.{read_back}
 use Rattle.notes.proofs.layouts.settle_all.Given as goal
 
-abbrev pub invariant-loop-left : goal.invariant-loop-left
-invariant-loop-left l = (l.left ≤ length l.notes) × (l.layout ≡ read_back l.initial.layout (drop l.left l.notes))
-
-abbrev pub decreases-loop-left : goal.decreases-loop-left
-decreases-loop-left l = l.left
+abbrev pub invariant-loop-note : goal.invariant-loop-note
+invariant-loop-note l = l.layout ≡ read_back l.initial.layout (reverse (map (λ n. n.now) l.yielded))

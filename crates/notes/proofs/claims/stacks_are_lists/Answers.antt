@@ -1,5 +1,0 @@
-use Rattle.notes.proofs.Stacking.{stacks}
-use Rattle.notes.proofs.claims.stacks_are_lists.Goals as goal
-
-pub returns : goal.returns
-returns c = stacks
