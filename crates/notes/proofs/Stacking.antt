@@ -1,10 +1,11 @@
 -- The stack of notes and that of open splits are lists. Assumes nothing.
-use Rattle.std.proofs.Common.{◌≡◌, ℕ, ◌+◌, ◌-◌, ◌<◌, ◌≤◌, Bool, true, false, cond, ltb, List, [], ◌∷◌, ◌++◌, length, take, set, get_or, Some, None, Option, sym, refl, ap, ◌∙◌, subst, ⊎_elim, add-one, arith}
+use Rattle.std.proofs.Common.{◌≡◌, ℕ, ◌+◌, ◌-◌, ◌<◌, ◌≤◌, Bool, true, false, cond, ltb, List, [], ◌∷◌, ◌++◌, length, take, set, get_or, Some, None, Option, sym, refl, ap, ◌∙◌, add-one, arith}
 use Rattle.std.specs.List.{slice_get}
 use Rattle.std.proofs.lemmas.List.{length-set, length-append, length-take, take_all, take_more, take_more_set, take-take}
 use Rattle.std.proofs.lemmas.Option.{slice_get-get_or}
-use Rattle.std.proofs.lemmas.Bool.{cases_Bool, cond-true, cond-false, ltb-true, lt-ltb}
+use Rattle.std.proofs.lemmas.Bool.{cond-true, ltb-true, lt-ltb}
 use Rattle.notes.specs.declared.splits.Split.{Split}
+use Rattle.notes.specs.declared.splits.TheConstants.{MOST_SPLITS}
 use Rattle.notes.specs.Claims.{Stacks}
 use Rattle.notes.specs.Splits.{Bounded, at_zero, at_one, pushed, top_of, begun, popped}
 use Rattle.notes.specs.Stack.{notes_of}
@@ -39,16 +40,16 @@ begun_last s p top =
     ∙ take_more_set s (length s - 1) (at_one p) there
 
 push_bounded : (s : List Split) (y n : ℕ) → Bounded s → Bounded (pushed s y n)
-push_bounded s y n h = go (ltb (length s) 20) refl
+push_bounded s y n h = go (ltb (length s) MOST_SPLITS) refl
   where
-    go : (t : Bool) → ltb (length s) 20 ≡ t → length (cond t (s ++ at_zero y n ∷ []) s) ≤ 20
-    go true e = omega (arith, ltb-true (length s) 20 e, length-append s (at_zero y n ∷ []))
+    go : (t : Bool) → ltb (length s) MOST_SPLITS ≡ t → length (cond t (s ++ at_zero y n ∷ []) s) ≤ MOST_SPLITS
+    go true e = omega (arith, ltb-true (length s) MOST_SPLITS e, length-append s (at_zero y n ∷ []))
     go false e = h
 
 begun_bounded : (s : List Split) → Bounded s → Bounded (begun s)
 begun_bounded s h = go (top_of s)
   where
-    go : (o : Option Split) → length {A = Split} (elim o [ None ↦ s | Some p ↦ set s (length s - 1) (at_one p) ]) ≤ 20
+    go : (o : Option Split) → length {A = Split} (elim o [ None ↦ s | Some p ↦ set s (length s - 1) (at_one p) ]) ≤ MOST_SPLITS
     go None = h
     go (Some p) = omega (arith, length-set s (length s - 1) (at_one p), h)
 
@@ -59,7 +60,7 @@ stacks = record {
       ∙ ap (λ k. take k (set h.table h.count n)) (sym (add-one h.count))
       ∙ take_more_set h.table h.count n room;
   note_fewer = λ h k few. ap (λ m. take m h.table) (omega arith) ∙ sym (take-take k h.count h.table few);
-  split_more = λ s y n room. cond-true (ltb (length s) 20) (s ++ at_zero y n ∷ []) s (lt-ltb (length s) 20 room);
+  split_more = λ s y n room. cond-true (ltb (length s) MOST_SPLITS) (s ++ at_zero y n ∷ []) s (lt-ltb (length s) MOST_SPLITS room);
   split_fewer = λ s some.
       let last = length s - 1 in
       (get_or s last (at_zero 0 0), slice_get-get_or s last (at_zero 0 0) (omega arith), split_off s some);

@@ -2,6 +2,7 @@
 use Rattle.std.specs.Prelude.{◌≡◌, ℕ, ◌<◌, ◌≤◌, List, [], ◌∷◌, ◌++◌, length, take, Some}
 use Rattle.notes.specs.declared.removal.Removal.{Removal}
 use Rattle.notes.specs.declared.splits.Split.{Split}
+use Rattle.notes.specs.declared.splits.TheConstants.{MOST_SPLITS}
 use Rattle.notes.specs.Splits.{Bounded, at_zero, at_one, pushed, top_of, begun, popped}
 use Rattle.notes.specs.Stack.{Noted, notes_of, push_note, cut_notes}
 
@@ -9,7 +10,7 @@ use Rattle.notes.specs.Stack.{Noted, notes_of, push_note, cut_notes}
 pub record Stacks : Type 0 where
   pub note_more : (h : Noted) (n : Removal) → h.count < length h.table → notes_of (push_note h n) ≡ notes_of h ++ n ∷ []
   pub note_fewer : (h : Noted) (k : ℕ) → k ≤ h.count → notes_of (cut_notes h k) ≡ take k (notes_of h)
-  pub split_more : (s : List Split) (y n : ℕ) → length s < 20 → pushed s y n ≡ s ++ at_zero y n ∷ []
+  pub split_more : (s : List Split) (y n : ℕ) → length s < MOST_SPLITS → pushed s y n ≡ s ++ at_zero y n ∷ []
   pub split_fewer : (s : List Split) → 0 < length s → (p : Split) × (top_of s ≡ Some p) × (s ≡ popped s ++ p ∷ [])
   pub split_begun : (s : List Split) (p : Split) → top_of s ≡ Some p → begun s ≡ popped s ++ at_one p ∷ []
   pub push_bounded : (s : List Split) (y n : ℕ) → Bounded s → Bounded (pushed s y n)

@@ -1,11 +1,12 @@
 -- The open splits, a list with the oldest first. Assumes nothing.
-use Rattle.std.specs.Prelude.{◌≡◌, ℕ, ◌-◌, ◌≤◌, true, false, cond, List, [], ◌∷◌, ◌++◌, length, take, set, Some, None, Option, nat_lt}
+use Rattle.std.specs.Prelude.{ℕ, ◌-◌, ◌≤◌, true, false, cond, List, [], ◌∷◌, ◌++◌, length, take, set, Some, None, Option, nat_lt}
 use Rattle.std.specs.List.{slice_get}
 use Rattle.notes.specs.declared.splits.Split.{Split}
+use Rattle.notes.specs.declared.splits.TheConstants.{MOST_SPLITS}
 
--- no more than 20 are open: so it begins, and so it stays
+-- no more than `MOST_SPLITS` are open: so it begins, and so it stays
 abbrev pub Bounded : List Split → Type 0
-Bounded s = length s ≤ 20
+Bounded s = length s ≤ MOST_SPLITS
 
 abbrev pub at_zero : ℕ → ℕ → Split
 at_zero y n = record { variable = y; noted = n; begun = false }
@@ -13,9 +14,9 @@ at_zero y n = record { variable = y; noted = n; begun = false }
 abbrev pub at_one : Split → Split
 at_one p = record { variable = p.variable; noted = p.noted; begun = true }
 
--- one more; where 20 are open, nothing changes
+-- one more; where so many are open, nothing changes
 abbrev pub pushed : List Split → ℕ → ℕ → List Split
-pushed s y n = cond (nat_lt (length s) 20) (s ++ at_zero y n ∷ []) s
+pushed s y n = cond (nat_lt (length s) MOST_SPLITS) (s ++ at_zero y n ∷ []) s
 
 -- the newest
 abbrev pub top_of : List Split → Option Split

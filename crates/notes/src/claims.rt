@@ -5,5 +5,4 @@ ghost use Rattle.notes.specs.Claims.{Stacks};
 #[tactic(auto, using(crate::proofs::Stacking::stacks))]
 pub fn stacks_are_lists()
     ensures { Stacks }
-{
-}
+{}

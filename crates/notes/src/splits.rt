@@ -1,6 +1,7 @@
 // The open splits, the newest at the top.
 ghost use Rattle.std.specs.Prelude.{◌≡◌, ◌≤◌, List, [], length, take, is_ok, is_some, nat_lt};
 ghost use Rattle.notes.specs.declared.splits.Split.{Split};
+ghost use Rattle.notes.specs.declared.splits.TheConstants.{MOST_SPLITS};
 ghost use Rattle.notes.specs.Splits.{Bounded, at_one, pushed, begun, popped, top_of};
 
 use crate::full::Full;
@@ -37,7 +38,7 @@ impl Model for Splits {
 
     ghost view = { λ s. take s.count s.table };
 
-    ghost invariant = { λ s. s.count ≤ 20 };
+    ghost invariant = { λ s. s.count ≤ MOST_SPLITS };
 }
 
 impl Splits {
@@ -57,10 +58,10 @@ impl Splits {
         }
     }
 
-    // Opens a split at value 0. Where 20 are open, nothing changes.
+    // Opens a split at value 0. Where `MOST_SPLITS` are open, nothing changes.
     pub fn push(&mut self, variable: u32, noted: usize) -> Result<(), Full>
         ensures pushed { self.new ≡ pushed self.old variable noted }
-        ensures room { is_ok result ≡ nat_lt (length self.old) 20 }
+        ensures room { is_ok result ≡ nat_lt (length self.old) MOST_SPLITS }
     {
         let at = self.count;
         if at >= MOST_SPLITS {
