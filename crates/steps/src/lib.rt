@@ -11,88 +11,71 @@ ghost use Rattle.steps.specs.Claims.{RemovalsKeepBest, SettingStands, ExploredGr
 use score::interface::Kind;
 
 // Every removal keeps the best.
-pub fn removals_stand<K: Kind>() -> u8
+pub fn removals_stand<K: Kind>()
     ensures { RemovalsKeepBest K.Kind.model Bool }
-{
-    0
-}
+{}
 
 // A variable that is set stands at its value.
-pub fn setting_stands<K: Kind>() -> u8
+#[tactic(auto, using(crate::proofs::Sheets::value_set, crate::proofs::Removals::set_sound))]
+pub fn setting_stands<K: Kind>()
     ensures { SettingStands K.Kind.model Bool }
-{
-    0
-}
+{}
 
 // An exploration leaves as best held the greatest of what was held and of all values, with a layout that attains it.
-pub fn explorations_stand<K: Kind>() -> u8
+pub fn explorations_stand<K: Kind>()
     ensures { ExploredGreatest K.Kind.model Bool }
-{
-    0
-}
+{}
 
 // There is one outcome at most.
-pub fn one_outcome_stands<K: Kind>() -> u8
+pub fn one_outcome_stands<K: Kind>()
     ensures { ExploredOnce K.Kind.model Bool }
-{
-    0
-}
+{}
 
 // There is always an outcome.
-pub fn outcome_stands<K: Kind>() -> u8
+#[tactic(auto, using(crate::proofs::Run::outcome))]
+pub fn outcome_stands<K: Kind>()
     ensures { ExploredAlways K.Kind.model Bool }
-{
-    0
-}
+{}
 
 // The splits are at most 2 ^ k - 1, k the variables with three or more partners.
-pub fn splits_stand<K: Kind>() -> u8
+#[tactic(auto, using(crate::proofs::Splits::splits_bounded))]
+pub fn splits_stand<K: Kind>()
     ensures values { SplitsBounded K.Kind.model Bool }
     ensures banks { BankSplitsWithin K.Kind.model (λ k. 2 ^ k) }
-{
-    0
-}
+{}
 
 // The sheet that a solve starts from says what the board says with its pins.
-pub fn start_stands<K: Kind>() -> u8
+#[tactic(auto, using(crate::proofs::Pins::at_once))]
+pub fn start_stands<K: Kind>()
     ensures says { StartStands K.Kind.model Bool }
     ensures once { StartAtOnce K.Kind.model Bool }
-{
-    0
-}
+{}
 
 // A solve ends with the greatest score of all layouts that keep the pins, and with a layout that has it.
-pub fn solve_stands<K: Kind>() -> u8
+pub fn solve_stands<K: Kind>()
     ensures { SolveStands K.Kind.model Bool }
-{
-    0
-}
+{}
 
 // A board without pins is worth the score of its layout.
-pub fn unpinned_stands<K: Kind>() -> u8
+#[tactic(auto, using(crate::proofs::Starts::unpinned_sound, crate::proofs::Starts::unpinned_value))]
+pub fn unpinned_stands<K: Kind>()
     ensures { UnpinnedStands K.Kind.model Bool }
-{
-    0
-}
+{}
 
 // With two banks a choice is the better of two, and value 0 if they are equal.
-pub fn banks_choose<K: Kind>() -> u8
+#[tactic(auto, using(crate::proofs::Choices::bank_chosen, crate::proofs::Choices::bank_better))]
+pub fn banks_choose<K: Kind>()
     ensures { BanksChoose K.Kind.model false true }
-{
-    0
-}
+{}
 
 // No step makes a worksheet of more entries, and within 1,024 every join of a step is exact.
-pub fn entries_stand<K: Kind>() -> u8
+pub fn entries_stand<K: Kind>()
     ensures few { EntriesStand K.Kind.model Bool }
     ensures total { TotalsStand K.Kind.model Bool }
-{
-    0
-}
+{}
 
 // The little boards, worked out by the steps.
-pub fn examples_stand() -> u8
+#[tactic(auto, using(crate::proofs::Worked::examples))]
+pub fn examples_stand()
     ensures { Examples }
-{
-    0
-}
+{}

@@ -1,5 +1,0 @@
-use Rattle.steps.proofs.Worked.{examples}
-use Rattle.steps.proofs.examples_stand.Goals as goal
-
-pub returns : goal.returns
-returns c = examples
