@@ -1,15 +1,15 @@
 -- What a step does to the records. Assumes nothing.
 use Rattle.std.specs.Prelude.{ℕ, suc, Bool, true, false, cond, not, List, [], ◌∷◌, length, take, set, Some, None, filter, Option, nat_lt}
-use Rattle.std.specs.List.{slice_get}
+use Rattle.std.specs.List.{fold, slice_get}
 use Rattle.score.specs.Model.{Model}
 use Rattle.score.specs.declared.choice.Choice.{Choice}
+use Rattle.score.specs.declared.values.Two.{Two}
 use Rattle.score.specs.declared.values.Four.{Four}
-use Rattle.score.specs.Values.{at_four}
+use Rattle.score.specs.Values.{at_two, at_four}
 use Rattle.records.specs.declared.pairs.Link.{Link}
 use Rattle.records.specs.declared.pairs.Pair.{Pair}
 use Rattle.records.specs.Pairs.{touches, link_of, is_pair, joined_pair, place}
-use Rattle.sheets.specs.declared.variables.Var.{Var}
-use Rattle.sheets.specs.Variables.{joined_var, score_at}
+use Rattle.sheets.specs.Variables.{Var, joined_var}
 
 abbrev pub choose_held : {K : Type 0} → K → Bool → Choice K
 choose_held a t = record { score = a; second = t }
@@ -22,27 +22,34 @@ chosen M means a b = cond (M.at_most (means b) (means a)) (choose_held a false) 
 abbrev pub kept : {K : Type 0} → ℕ → List (Pair K) → List (Pair K)
 kept y ps = filter (λ p. not (touches y p)) ps
 
+-- the two scores of a pair, the first variable standing at c
+abbrev pub row : {K : Type 0} → Bool → Four K → Two K
+row c f = record { zero = at_four f c false; one = at_four f c true }
+
 -- J: what a join of two held scores holds
 module _ {K : Type 0} (J : K → K → K) where
   -- a variable's score at w joined with the pair's, the partner standing at u
-  abbrev pub worth_one : Var K → Link K → Bool → Bool → K
-  worth_one r l u w = J (score_at r w) (at_four l.scores w u)
+  abbrev pub worth_one : Two K → Link K → Bool → Bool → K
+  worth_one r l u w = J (at_two r w) (at_four l.scores w u)
 
   -- the same with two pairs, the partners standing at u and t
-  abbrev pub worth_two : Var K → Link K → Link K → Bool → Bool → Bool → K
+  abbrev pub worth_two : Two K → Link K → Link K → Bool → Bool → Bool → K
   worth_two r l m u t w = J (worth_one r l u w) (at_four m.scores w t)
 
-  abbrev pub join_at : List (Var K) → ℕ → K → K → List (Var K)
-  join_at vs x z o = elim (slice_get vs x) [ None ↦ vs | Some r ↦ set vs x (joined_var J r z o) ]
+  -- a variable's two scores joined with the pair's, the partner standing at u
+  abbrev pub worth : Two K → Link K → Bool → Two K
+  worth r l u = record { zero = worth_one r l u false; one = worth_one r l u true }
+
+  abbrev pub join_at : List (Var K) → ℕ → Two K → List (Var K)
+  join_at vs x t = elim (slice_get vs x) [ None ↦ vs | Some r ↦ set vs x (joined_var J r t) ]
 
   -- the scores of a pair, the first variable at c, go to the partner
   abbrev pub hand : Bool → List (Var K) → Option (Link K) → List (Var K)
   hand c vs None = vs
-  hand c vs (Some l) = join_at vs l.partner (at_four l.scores c false) (at_four l.scores c true)
+  hand c vs (Some l) = join_at vs l.partner (row c l.scores)
 
   abbrev pub handed : ℕ → Bool → List (Var K) → List (Pair K) → List (Var K)
-  handed y c vs [] = vs
-  handed y c vs (p ∷ ps) = handed y c (hand c vs (link_of y p)) ps
+  handed y c vs ps = fold (λ ws p. hand c ws (link_of y p)) vs ps
 
   -- the pair of x and z: joined onto the first record, or a new one
   abbrev pub post : ℕ → ℕ → Four K → List (Pair K) → List (Pair K)
@@ -64,7 +71,7 @@ abbrev pub post_used : {K : Type 0} → ℕ → ℕ → ℕ → List (Pair K) �
 post_used x z used ps = elim (place x z (take used ps)) [ None ↦ cond (nat_lt used (length ps)) (suc used) used | Some i ↦ used ]
 
 -- the choices for each values of two partners, and their scores
-abbrev pub two_best : {E S K : Type 0} → Model E S → (K → S) → (K → K → K) → Var K → Link K → Link K → Four (Choice K)
+abbrev pub two_best : {E S K : Type 0} → Model E S → (K → S) → (K → K → K) → Two K → Link K → Link K → Four (Choice K)
 two_best M means J r l m = record {
   at00 = chosen M means (worth_two J r l m false false false) (worth_two J r l m false false true);
   at01 = chosen M means (worth_two J r l m false true false) (worth_two J r l m false true true);

@@ -1,34 +1,38 @@
 -- Joins over all records: of the better scores, and of the better entries of each pair onto its lower variable. Assumes nothing.
-use Rattle.std.specs.Prelude.{cond, List, [], ◌∷◌}
+use Rattle.std.specs.Prelude.{List, Some, None}
+use Rattle.std.specs.List.{fold}
 use Rattle.score.specs.Model.{Model}
+use Rattle.score.specs.declared.values.Two.{Two}
 use Rattle.records.specs.declared.pairs.Pair.{Pair}
-use Rattle.sheets.specs.declared.variables.Var.{Var}
 use Rattle.sheets.specs.Changed.{chosen, join_at}
+use Rattle.sheets.specs.Variables.{Var}
 
 module _ {E S K : Type 0} (M : Model E S) (means : K → S) where
-  abbrev pub best_var : Var K → K
-  best_var r = (chosen M means r.zero r.one).score
+  abbrev pub best_of_two : Two K → K
+  best_of_two t = (chosen M means t.zero t.one).score
+
+  -- the better entries of a pair, at each value of its lower variable
+  abbrev pub low_bests : Pair K → Two K
+  low_bests p = record { zero = (chosen M means p.scores.at00 p.scores.at01).score; one = (chosen M means p.scores.at10 p.scores.at11).score }
 
   abbrev pub best_pair : Pair K → K
-  best_pair p = (chosen M means (chosen M means p.scores.at00 p.scores.at01).score (chosen M means p.scores.at10 p.scores.at11).score).score
+  best_pair p = best_of_two (low_bests p)
 
 module _ {E S K : Type 0} (M : Model E S) (means : K → S) (J : K → K → K) where
   -- a variable that remains is joined on
   abbrev pub with_var : K → Var K → K
-  with_var k r = cond r.present (J k (best_var M means r)) k
+  with_var k None = k
+  with_var k (Some r) = J k (best_of_two M means r)
 
   abbrev pub with_vars : K → List (Var K) → K
-  with_vars k [] = k
-  with_vars k (r ∷ rs) = with_vars (with_var k r) rs
+  with_vars k vs = fold with_var k vs
 
   abbrev pub with_pairs : K → List (Pair K) → K
-  with_pairs k [] = k
-  with_pairs k (p ∷ ps) = with_pairs (J k (best_pair M means p)) ps
+  with_pairs k ps = fold (λ t p. J t (best_pair M means p)) k ps
 
   -- the better entries of a pair go to its lower variable
   abbrev pub with_arm : List (Var K) → Pair K → List (Var K)
-  with_arm vs p = join_at J vs p.low (chosen M means p.scores.at00 p.scores.at01).score (chosen M means p.scores.at10 p.scores.at11).score
+  with_arm vs p = join_at J vs p.low (low_bests M means p)
 
   abbrev pub arms : List (Var K) → List (Pair K) → List (Var K)
-  arms vs [] = vs
-  arms vs (p ∷ ps) = arms (with_arm vs p) ps
+  arms vs ps = fold with_arm vs ps

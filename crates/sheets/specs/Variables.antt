@@ -1,13 +1,12 @@
--- A worksheet's variable: at a value, with scores joined on, and gone. Assumes nothing.
-use Rattle.std.specs.Prelude.{Bool, false, cond}
-use Rattle.sheets.specs.declared.variables.Var.{Var}
+-- A worksheet's variable: its two scores, or nothing once it has left. Assumes nothing.
+use Rattle.std.specs.Prelude.{Option}
+use Rattle.std.specs.Option.{option_map}
+use Rattle.score.specs.declared.values.Two.{Two}
+use Rattle.score.specs.Values.{joined_two}
 
-abbrev pub score_at : {K : Type 0} → Var K → Bool → K
-score_at r u = cond u r.one r.zero
+abbrev pub Var : Type 0 → Type 0
+Var K = Option (Two K)
 
--- J: what a join of two held scores holds
-abbrev pub joined_var : {K : Type 0} → (K → K → K) → Var K → K → K → Var K
-joined_var J r z o = record { zero = J r.zero z; one = J r.one o; present = r.present }
-
-abbrev pub gone : {K : Type 0} → Var K → Var K
-gone r = record { zero = r.zero; one = r.one; present = false }
+-- J: what a join of two held scores holds; nothing is joined onto a variable that has left
+abbrev pub joined_var : {K : Type 0} → (K → K → K) → Var K → Two K → Var K
+joined_var J r t = option_map (λ s. joined_two J s t) r

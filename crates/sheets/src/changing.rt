@@ -1,48 +1,49 @@
-// What a step does to the records: the better of two, joins onto records, and pairs that leave.
-ghost use Rattle.std.specs.Prelude.{◌≡◌, ◌≤◌, true, false, not, length, take, drop};
+// What a step does to the records: the better of two, joins onto records, and variables and pairs that leave.
+ghost use Rattle.std.specs.Prelude.{◌≡◌, ◌≤◌, true, false, not, length, take, drop, None, slice_set};
 ghost use Rattle.records.specs.Pairs.{touches};
-ghost use Rattle.sheets.specs.Changed.{chosen, join_at, handed, kept, post_in, post_used, worth_one, worth_two, hand, join_pair_at, two_best, two_scores};
+ghost use Rattle.sheets.specs.Changed.{chosen, worth, worth_one, worth_two, join_at, hand, handed, kept, join_pair_at, post_in, post_used, two_best, two_scores};
 
 use crate::variables::Var;
-use score::values::Four;
 use records::access::{first, read, write};
 use records::pairs::{Link, Pair, place_of};
 use score::choice::{Choice, better_of};
 use score::interface::Kind;
+use score::values::{Four, Two};
 
 // The greater, and the first if they are equal.
-pub fn better<K: Kind>(zero: K, one: K) -> Choice<K>
-    ensures { result ≡ chosen K.Kind.model K.Kind.means zero one }
+pub fn better<K: Kind>(scores: Two<K>) -> Choice<K>
+    ensures { result ≡ chosen K.Kind.model K.Kind.means scores.zero scores.one }
 {
-    better_of(zero, one)
+    better_of(scores.zero, scores.one)
+}
+
+// A variable's scores joined with the pair's, the partner standing at `u`.
+fn worth<K: Kind>(var: Two<K>, link: Link<K>, u: bool) -> Two<K>
+    ensures { result ≡ worth K.Kind.held var link u }
+{
+    var.joined(Two {
+        zero: link.scores.at(false, u),
+        one: link.scores.at(true, u),
+    })
 }
 
 // The better, over a variable's values, of its score joined with the pair's, the partner standing at `u`.
-pub fn best_with_one<K: Kind>(var: Var<K>, link: Link<K>, u: bool) -> Choice<K>
+pub fn best_with_one<K: Kind>(var: Two<K>, link: Link<K>, u: bool) -> Choice<K>
     ensures { result ≡ chosen K.Kind.model K.Kind.means (worth_one K.Kind.held var link u false) (worth_one K.Kind.held var link u true) }
 {
-    let zero = var.zero.join(link.scores.at(false, u));
-    let one = var.one.join(link.scores.at(true, u));
-    better(zero, one)
+    better(worth(var, link, u))
 }
 
 // The same with two pairs, the partners standing at `u` and at `t`.
-fn best_at<K: Kind>(var: Var<K>, low: Link<K>, high: Link<K>, u: bool, t: bool) -> Choice<K>
+fn best_at<K: Kind>(var: Two<K>, low: Link<K>, high: Link<K>, u: bool, t: bool) -> Choice<K>
     ensures { result ≡ chosen K.Kind.model K.Kind.means (worth_two K.Kind.held var low high u t false) (worth_two K.Kind.held var low high u t true) }
 {
-    let zero = var
-        .zero
-        .join(low.scores.at(false, u))
-        .join(high.scores.at(false, t));
-    let one = var
-        .one
-        .join(low.scores.at(true, u))
-        .join(high.scores.at(true, t));
-    better(zero, one)
+    let scores = worth(worth(var, low, u), high, t);
+    better(scores)
 }
 
 // The choices for each values of the two partners.
-pub fn best_with_two<K: Kind>(var: Var<K>, low: Link<K>, high: Link<K>) -> Four<Choice<K>>
+pub fn best_with_two<K: Kind>(var: Two<K>, low: Link<K>, high: Link<K>) -> Four<Choice<K>>
     ensures { result ≡ two_best K.Kind.model K.Kind.means K.Kind.held var low high }
 {
     Four {
@@ -64,12 +65,20 @@ pub fn scores_of<K: Copy>(best: Four<Choice<K>>) -> Four<K>
     }
 }
 
-// Joins two scores onto a variable's.
-pub fn join_at<K: Kind>(vars: &mut [Var<K>], x: usize, zero: K, one: K)
-    ensures { vars.new ≡ join_at K.Kind.held vars.old x zero one }
+// Takes a variable away.
+pub fn leave<K: Copy>(vars: &mut [Var<K>], y: u32)
+    ensures { vars.new ≡ slice_set vars.old y None }
 {
-    if let Some(var) = read(vars, x) {
-        write(vars, x, var.joined(zero, one));
+    write(vars, y as usize, None);
+}
+
+// Joins two scores onto a variable's, if it remains.
+pub fn join_at<K: Kind>(vars: &mut [Var<K>], x: u32, scores: Two<K>)
+    ensures { vars.new ≡ join_at K.Kind.held vars.old x scores }
+{
+    let at = x as usize;
+    if let Some(var) = read(vars, at) {
+        write(vars, at, var.map(|own| own.joined(scores)));
     }
 }
 
@@ -79,7 +88,7 @@ fn stays<K: Copy>(pair: &Pair<K>, y: u32) -> bool
     !pair.touches(y)
 }
 
-// Removes a variable's pairs. The others keep their order.
+// Removes a variable's pairs. The others keep their order. A lent slice has no `retain`, so the place is counted here.
 pub fn drop_pairs<K: Copy>(pairs: &mut [Pair<K>], used: usize, y: u32) -> usize
     ensures kept { take result pairs.new ≡ kept y (take used pairs.old) }
     ensures rest { drop used pairs.new ≡ drop used pairs.old }
@@ -103,9 +112,11 @@ fn hand<K: Kind>(vars: &mut [Var<K>], link: Option<Link<K>>, c: bool)
     ensures { vars.new ≡ hand K.Kind.held c vars.old link }
 {
     if let Some(link) = link {
-        let zero = link.scores.at(c, false);
-        let one = link.scores.at(c, true);
-        join_at(vars, link.partner as usize, zero, one);
+        let scores = Two {
+            zero: link.scores.at(c, false),
+            one: link.scores.at(c, true),
+        };
+        join_at(vars, link.partner, scores);
     }
 }
 

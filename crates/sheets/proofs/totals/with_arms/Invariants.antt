@@ -1,8 +1,6 @@
-use Rattle.std.proofs.Common.{◌≡◌, drop}
+use Rattle.std.proofs.Common.{◌≡◌, take}
 use Rattle.sheets.specs.Totals.{arms}
 use Rattle.sheets.proofs.totals.with_arms.Given as goal
 
 abbrev pub invariant-loop-pair : goal.invariant-loop-pair
-invariant-loop-pair g l =
-    arms g.K.Kind.model g.K.Kind.means g.K.Kind.held l.table (drop l.pair-index l.pairs)
-    ≡ arms g.K.Kind.model g.K.Kind.means g.K.Kind.held l.initial.table l.pairs
+invariant-loop-pair g l = l.table ≡ arms g.K.Kind.model g.K.Kind.means g.K.Kind.held l.initial.table (take l.pair-index l.pairs)

@@ -1,8 +1,0 @@
-use Rattle.std.proofs.Common.{◌≡◌, drop}
-use Rattle.sheets.specs.Totals.{with_vars}
-use Rattle.sheets.proofs.totals.with_vars.Given as goal
-
-abbrev pub invariant-loop-var : goal.invariant-loop-var
-invariant-loop-var g l =
-    with_vars g.K.Kind.model g.K.Kind.means g.K.Kind.held l.total (drop l.var-index l.vars)
-    ≡ with_vars g.K.Kind.model g.K.Kind.means g.K.Kind.held l.initial.total l.vars
