@@ -1,6 +1,6 @@
 -- The pairs of one variable. Assumes nothing.
 use Rattle.std.specs.Prelude.{ℕ, cond, List, [], ◌∷◌, Some, None, Option, ◌==◌, nat_lt}
-use Rattle.std.specs.List.{slice_get}
+use Rattle.std.specs.List.{fold, slice_get}
 use Rattle.partners.specs.declared.links.ByOne.{ByOne}
 use Rattle.partners.specs.declared.links.ByTwo.{ByTwo}
 use Rattle.partners.specs.declared.links.Links.{Links}
@@ -8,7 +8,8 @@ use Rattle.partners.specs.declared.links.Links.TheVariants.{Alone, One, Two, Mor
 use Rattle.records.specs.declared.pairs.Link.{Link}
 use Rattle.records.specs.declared.pairs.Pair.{Pair}
 use Rattle.records.specs.Pairs.{link_of}
-use Rattle.sheets.specs.declared.variables.Var.{Var}
+use Rattle.sheets.specs.Variables.{Var}
+use Rattle.score.specs.declared.values.Two.{Two as Scores}
 
 module _ {K : Type 0} where
   abbrev pub front : Option (Link K) → List (Link K) → List (Link K)
@@ -36,32 +37,31 @@ module _ {K : Type 0} where
   add_link k (Some l) = with_link k l
 
   abbrev pub gather : ℕ → Links K → List (Pair K) → Links K
-  gather y k [] = k
-  gather y k (p ∷ ps) = gather y (add_link k (link_of y p)) ps
+  gather y k ps = fold (λ ls p. add_link ls (link_of y p)) k ps
 
-  -- the record of y, if y remains
-  abbrev pub present_at : List (Var K) → ℕ → Option (Var K)
-  present_at vs y = elim (slice_get vs y) [ None ↦ None | Some r ↦ cond r.present (Some r) None ]
+  -- the scores of y, if y remains
+  abbrev pub present_at : List (Var K) → ℕ → Option (Scores K)
+  present_at vs y = elim (slice_get vs y) [ None ↦ None | Some r ↦ r ]
 
-  abbrev pub with_no_link : Links K → Var K → Option (Var K)
+  abbrev pub with_no_link : Links K → Scores K → Option (Scores K)
   with_no_link Alone r = Some r
   with_no_link (One l) r = None
   with_no_link (Two l m) r = None
   with_no_link More r = None
 
-  abbrev pub with_one_link : Links K → Var K → Option (ByOne K)
+  abbrev pub with_one_link : Links K → Scores K → Option (ByOne K)
   with_one_link Alone r = None
   with_one_link (One l) r = Some (record { var = r; link = l })
   with_one_link (Two l m) r = None
   with_one_link More r = None
 
-  abbrev pub with_two_links : Links K → Var K → Option (ByTwo K)
+  abbrev pub with_two_links : Links K → Scores K → Option (ByTwo K)
   with_two_links Alone r = None
   with_two_links (One l) r = None
   with_two_links (Two l m) r = Some (record { var = r; low = l; high = m })
   with_two_links More r = None
 
-  abbrev pub alone_at : List (Var K) → List (Pair K) → ℕ → Option (Var K)
+  abbrev pub alone_at : List (Var K) → List (Pair K) → ℕ → Option (Scores K)
   alone_at vs ps y = elim (present_at vs y) [ None ↦ None | Some r ↦ with_no_link (gather y Alone ps) r ]
 
   abbrev pub one_at : List (Var K) → List (Pair K) → ℕ → Option (ByOne K)

@@ -1,6 +1,6 @@
 -- How many pairs touch each variable. Assumes nothing.
 use Rattle.std.specs.Prelude.{ℕ, ◌+◌, ◌%◌, ◌^◌, List, [], ◌∷◌, Some, None, slice_set}
-use Rattle.std.specs.List.{slice_get}
+use Rattle.std.specs.List.{fold, slice_get}
 use Rattle.records.specs.declared.pairs.Pair.{Pair}
 
 -- one more for v
@@ -13,5 +13,4 @@ module _ {K : Type 0} where
   both_more ds p = one_more (one_more ds p.low) p.high
 
   abbrev pub tallied : List ℕ → List (Pair K) → List ℕ
-  tallied ds [] = ds
-  tallied ds (p ∷ ps) = tallied (both_more ds p) ps
+  tallied ds ps = fold both_more ds ps

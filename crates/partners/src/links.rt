@@ -2,8 +2,8 @@
 ghost use Rattle.std.specs.Prelude.{◌≡◌, Some, None};
 ghost use Rattle.partners.specs.Links.{with_link, add_link, gather, present_at, alone_at, one_at, two_at};
 
-use records::access::read;
 use records::pairs::{Link, Pair};
+use score::values::Two;
 use sheets::variables::Var;
 
 // A variable's pairs, as far as a removal needs them.
@@ -29,8 +29,7 @@ impl<K: Copy> Links<K> {
                     Links::Two(other, link)
                 }
             }
-            Links::Two(_, _) => Links::More,
-            Links::More => Links::More,
+            Links::Two(_, _) | Links::More => Links::More,
         }
     }
 
@@ -47,23 +46,20 @@ impl<K: Copy> Links<K> {
 fn links_of<K: Copy>(pairs: &[Pair<K>], y: u32) -> Links<K>
     ensures { result ≡ gather y Links.Alone pairs.now }
 {
-    let mut links = Links::Alone;
-    for pair in pairs {
-        links = links.add(pair.link_of(y));
-    }
-    links
+    pairs
+        .iter()
+        .fold(Links::Alone, |links, pair| links.add(pair.link_of(y)))
 }
 
-// The record of a variable that remains.
-pub fn present_at<K: Copy>(vars: &[Var<K>], y: u32) -> Option<Var<K>>
+// The scores of a variable that remains.
+pub fn present_at<K: Copy>(vars: &[Var<K>], y: u32) -> Option<Two<K>>
     ensures { result ≡ present_at vars.now y }
 {
-    let var = read(vars, y as usize)?;
-    if var.present { Some(var) } else { None }
+    vars.get(y as usize).copied().flatten()
 }
 
-// The record of a variable without partners.
-pub fn alone_at<K: Copy>(vars: &[Var<K>], pairs: &[Pair<K>], y: u32) -> Option<Var<K>>
+// The scores of a variable without partners.
+pub fn alone_at<K: Copy>(vars: &[Var<K>], pairs: &[Pair<K>], y: u32) -> Option<Two<K>>
     ensures { result ≡ alone_at vars.now pairs.now y }
 {
     let var = present_at(vars, y)?;
@@ -75,11 +71,11 @@ pub fn alone_at<K: Copy>(vars: &[Var<K>], pairs: &[Pair<K>], y: u32) -> Option<V
 
 #[derive(Clone, Copy)]
 pub struct ByOne<K> {
-    pub var: Var<K>,
+    pub var: Two<K>,
     pub link: Link<K>,
 }
 
-// The record of a variable with one partner, and the pair with that one.
+// The scores of a variable with one partner, and the pair with that one.
 pub fn one_at<K: Copy>(vars: &[Var<K>], pairs: &[Pair<K>], y: u32) -> Option<ByOne<K>>
     ensures { result ≡ one_at vars.now pairs.now y }
 {
@@ -92,12 +88,12 @@ pub fn one_at<K: Copy>(vars: &[Var<K>], pairs: &[Pair<K>], y: u32) -> Option<ByO
 
 #[derive(Clone, Copy)]
 pub struct ByTwo<K> {
-    pub var: Var<K>,
+    pub var: Two<K>,
     pub low: Link<K>,
     pub high: Link<K>,
 }
 
-// The record of a variable with two partners, and the pairs with them, the lower first.
+// The scores of a variable with two partners, and the pairs with them, the lower first.
 pub fn two_at<K: Copy>(vars: &[Var<K>], pairs: &[Pair<K>], y: u32) -> Option<ByTwo<K>>
     ensures { result ≡ two_at vars.now pairs.now y }
 {
