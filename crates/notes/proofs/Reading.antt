@@ -2,11 +2,10 @@
 use Rattle.std.proofs.Common.{◌≡◌, ℕ, ◌<◌, Bool, true, false, eqb, List, [], ◌∷◌, ◌++◌, map, reverse, length, Some, None, sym, refl, ap, ◌∙◌, subst, ⊎_elim}
 use mathlib.Core.Path.{fun_ext}
 use mathlib.Core.List.{reverse-cons}
-use Rattle.std.proofs.lemmas.List.{length-set}
+use Rattle.std.proofs.lemmas.List.{length-set, get_or-set_same, get_or-set_other}
 use Rattle.std.proofs.lemmas.Bool.{cases_eq, cond-true, cond-false, eq-eqb, ne_eqb}
 use Rattle.steps.specs.Sheet.{put}
 use Rattle.steps.specs.Steps.{Note, taken, read}
-use Rattle.records.proofs.Lists.{nth_set_same, nth_set_other}
 use Rattle.notes.specs.declared.removal.Removal.{Removal}
 use Rattle.notes.specs.Layouts.{bank_at, settled, read_back, ReadFrom}
 use Rattle.notes.specs.Removals.{bank, bank_number, way_of, note_of}
@@ -26,11 +25,11 @@ settled_is bs n below = fun_ext (λ v.
     ⊎_elim
     (λ (e : v ≡ n.variable).
     ap (bank_at (settled bs n)) e
-    ∙ ap (λ o. elim o [ None ↦ false | Some x ↦ bank x ]) (nth_set_same bs n.variable (bank_number t) below)
+    ∙ ap bank (get_or-set_same bs n.variable (bank_number t) 0 below)
     ∙ bank_back t
     ∙ sym (cond-true (eqb v n.variable) t (bank_at bs v) (eq-eqb v n.variable e)))
     (λ (e : v ≡ n.variable → ⊥).
-    ap (λ o. elim o [ None ↦ false | Some x ↦ bank x ]) (nth_set_other bs n.variable v (bank_number t) e)
+    ap bank (get_or-set_other bs n.variable v (bank_number t) 0 e)
     ∙ sym (cond-false (eqb v n.variable) t (bank_at bs v) (ne_eqb v n.variable e)))
     (cases_eq v n.variable))
   where

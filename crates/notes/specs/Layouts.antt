@@ -2,12 +2,13 @@
 use Rattle.std.specs.Prelude.{◌≡◌, ℕ, ◌<◌, Bool, false, List, [], ◌∷◌, map, reverse, length, Some, None, slice_set}
 use Rattle.std.specs.List.{AllByRecursion, slice_get}
 use Rattle.steps.specs.Steps.{taken, read}
+use Rattle.calls.specs.Runs.{values}
 use Rattle.notes.specs.declared.removal.Removal.{Removal}
 use Rattle.notes.specs.Removals.{bank, bank_number, way_of, note_of}
 
 -- the value of v; past the end it is 0
 abbrev pub bank_at : List ℕ → ℕ → Bool
-bank_at bs v = elim (slice_get bs v) [ None ↦ false | Some x ↦ bank x ]
+bank_at bs v = values bs v
 
 -- the value of a removed variable is written
 abbrev pub settled : List ℕ → Removal → List ℕ

@@ -1,26 +1,26 @@
 // The layout that is read from the notes of removals.
-ghost use Rattle.std.specs.Prelude.{◌≡◌, if◌then◌else◌};
+ghost use Rattle.std.specs.Prelude.{◌≡◌};
 ghost use Rattle.steps.specs.Steps.{taken};
 ghost use Rattle.notes.specs.Removals.{way_of};
 ghost use Rattle.notes.specs.Layouts.{bank_at, settled, read_back, ReadFrom};
 
 use crate::removal::{Removal, Way};
-use records::access::write;
-
-// The value of a variable in a layout of bytes 0 and 1; 0 past its end.
-fn value_of(layout: &[u8], v: u32) -> bool
-    ensures { result ≡ bank_at layout.now v }
-{
-    layout.get(v as usize).is_some_and(|byte| *byte == 1)
-}
+use records::access::{is_one, write};
+use score::values::{Four, Two};
 
 // The value that a removed variable takes, those removed after it standing as in the layout.
 fn value_taken(way: Way, layout: &[u8]) -> bool
     ensures { result ≡ taken (way_of way) (bank_at layout.now) }
 {
-    match way {
-        Way::Alone { value } => value == 1,
-        Way::ByOne { partner, at0, at1 } => pick(value_of(layout, partner), at0, at1) == 1,
+    let value = match way {
+        Way::Alone { value } | Way::Set { value } => value,
+        Way::ByOne { partner, at0, at1 } => {
+            let choices = Two {
+                zero: at0,
+                one: at1,
+            };
+            choices.at(is_one(layout, partner as usize))
+        }
         Way::ByTwo {
             low,
             high,
@@ -29,19 +29,19 @@ fn value_taken(way: Way, layout: &[u8]) -> bool
             at10,
             at11,
         } => {
-            let other = value_of(layout, high);
-            let at0 = pick(other, at00, at01);
-            let at1 = pick(other, at10, at11);
-            pick(value_of(layout, low), at0, at1) == 1
+            let choices = Four {
+                at00,
+                at01,
+                at10,
+                at11,
+            };
+            choices.at(
+                is_one(layout, low as usize),
+                is_one(layout, high as usize),
+            )
         }
-        Way::Set { value } => value == 1,
-    }
-}
-
-fn pick(value: bool, at0: u8, at1: u8) -> u8
-    ensures { result ≡ (if value then at1 else at0) }
-{
-    if value { at1 } else { at0 }
+    };
+    value == 1
 }
 
 // Writes the value of a removed variable into the layout.
