@@ -10,20 +10,19 @@ use Rattle.steps.specs.Sheet.{two_score}
 use Rattle.steps.proofs.Joins.{unit_right}
 use Rattle.records.specs.declared.pairs.Link.{Link}
 use Rattle.records.specs.declared.pairs.Pair.{Pair}
-use Rattle.sheets.specs.declared.variables.Var.{Var}
-use Rattle.sheets.specs.Changed.{hand, handed}
+use Rattle.score.specs.declared.values.Two.{Two}
+use Rattle.score.specs.declared.values.Four.{Four}
+use Rattle.sheets.specs.Variables.{Var}
+use Rattle.sheets.specs.Changed.{row, hand, handed}
 use Rattle.partners.specs.Links.{front, links, first_link}
-use Rattle.score.specs.Values.{at_four}
-use Rattle.sheets.specs.Variables.{score_at}
+use Rattle.score.specs.Values.{at_two, at_four}
 use Rattle.worksheet.specs.Records.{link_scores, var_says, Placed}
 use Rattle.worksheet.proofs.Onto.{join_at_other, join_at_length, join_at_placed, joined_says}
 use Rattle.worksheet.proofs.Partners.{Distinct, link_cases, first_here, first_on}
 
-at_second : {T : Type 0} (f : _) (c u : Bool) → cond {A = T} u (at_four f c true) (at_four f c false) ≡ at_four f c u
-at_second f false false = refl
-at_second f false true = refl
-at_second f true false = refl
-at_second f true true = refl
+row_at : {T : Type 0} (f : Four T) (c u : Bool) → at_two (row c f) u ≡ at_four f c u
+row_at f c false = refl
+row_at f c true = refl
 
 module _ {K : Type 0} (J : K → K → K) (c : Bool) where
   -- one link after the other
@@ -41,11 +40,11 @@ module _ {K : Type 0} (J : K → K → K) (c : Bool) where
 
   pub hand_all_length : (ls : List (Link K)) (vs : List (Var K)) → length (hand_all vs ls) ≡ length vs
   hand_all_length [] vs = refl
-  hand_all_length (l ∷ ls) vs = hand_all_length ls (hand J c vs (Some l)) ∙ join_at_length J vs l.partner (at_four l.scores c false) (at_four l.scores c true)
+  hand_all_length (l ∷ ls) vs = hand_all_length ls (hand J c vs (Some l)) ∙ join_at_length J vs l.partner (row c l.scores)
 
   pub hand_all_placed : (ls : List (Link K)) (vs : List (Var K)) (ps : List (Pair K)) → AllByRecursion (Placed vs) ps → AllByRecursion (Placed (hand_all vs ls)) ps
   hand_all_placed [] vs ps h = h
-  hand_all_placed (l ∷ ls) vs ps h = hand_all_placed ls (hand J c vs (Some l)) ps (join_at_placed J vs l.partner (at_four l.scores c false) (at_four l.scores c true) ps h)
+  hand_all_placed (l ∷ ls) vs ps h = hand_all_placed ls (hand J c vs (Some l)) ps (join_at_placed J vs l.partner (row c l.scores) ps h)
 
   -- who is no partner is as before
   pub hand_all_other : (ls : List (Link K)) (vs : List (Var K)) (v : ℕ) → first_link v ls ≡ None → slice_get (hand_all vs ls) v ≡ slice_get vs v
@@ -53,7 +52,7 @@ module _ {K : Type 0} (J : K → K → K) (c : Bool) where
   hand_all_other (l ∷ ls) vs v e =
       ⊎_elim
       (λ (h : v ≡ l.partner). absurd (some_none l (sym (first_here v l ls h) ∙ e)))
-      (λ (h : v ≡ l.partner → ⊥). hand_all_other ls (hand J c vs (Some l)) v (sym (first_on v l ls h) ∙ e) ∙ join_at_other J vs l.partner (at_four l.scores c false) (at_four l.scores c true) v h)
+      (λ (h : v ≡ l.partner → ⊥). hand_all_other ls (hand J c vs (Some l)) v (sym (first_on v l ls h) ∙ e) ∙ join_at_other J vs l.partner (row c l.scores) v h)
       (cases_eq v l.partner)
     where
       some_none : (l : Link K) → Some l ≡ None → ⊥
@@ -65,8 +64,8 @@ module _ {E S K : Type 0} (M : Model E S) (laws : Laws M) (means : K → S) (J :
   handed_to ls v = two_score M (option_map (link_scores means) (first_link v ls)) c
 
   abbrev ExactHand : List (Var K) → List (Link K) → Type 0
-  ExactHand vs ls = (x : ℕ) (l : Link K) (r : Var K) → first_link x ls ≡ Some l → slice_get vs x ≡ Some r → r.present ≡ true → (u : Bool)
-      → means (J (score_at r u) (at_four l.scores c u)) ≡ M.join (means (score_at r u)) (link_scores means l c u)
+  ExactHand vs ls = (x : ℕ) (l : Link K) (r : Two K) → first_link x ls ≡ Some l → slice_get vs x ≡ Some (Some r) → (u : Bool)
+      → means (J (at_two r u) (at_four l.scores c u)) ≡ M.join (means (at_two r u)) (link_scores means l c u)
 
   onto_nothing : (o : Option (Bool → S)) → option_map (onto_scores M (λ _. M.neutral)) o ≡ o
   onto_nothing None = refl
@@ -85,13 +84,13 @@ module _ {E S K : Type 0} (M : Model E S) (laws : Laws M) (means : K → S) (J :
       ∙ ap (λ o. option_map (onto_scores M (two_score M (option_map (link_scores means) o) c)) (var_says means (slice_get (hand J c vs (Some l)) v))) none
       ∙ onto_nothing (var_says means (slice_get (hand J c vs (Some l)) v))
       ∙ ap (λ x. var_says means (slice_get (hand J c vs (Some l)) x)) e
-      ∙ joined_says M means J vs l.partner (at_four l.scores c false) (at_four l.scores c true) (link_scores means l c)
-      (λ r there here u. ap (λ k. means (J (score_at r u) k)) (at_second l.scores c u) ∙ ex l.partner l r (first_here l.partner l ls refl) there here u)
+      ∙ joined_says M means J vs l.partner (row c l.scores) (link_scores means l c)
+      (λ r there u. ap (λ k. means (J (at_two r u) k)) (row_at l.scores c u) ∙ ex l.partner l r (first_here l.partner l ls refl) there u)
       ∙ ap (λ x. option_map (onto_scores M (link_scores means l c)) (var_says means (slice_get vs x))) (sym e)
       ∙ ap (λ o. option_map (onto_scores M (two_score M (option_map (link_scores means) o) c)) (var_says means (slice_get vs v))) (sym (first_here v l ls e)))
       (λ (e : v ≡ l.partner → ⊥).
       rest
-      ∙ ap (λ r. option_map (onto_scores M (handed_to ls v)) (var_says means r)) (join_at_other J vs l.partner (at_four l.scores c false) (at_four l.scores c true) v e)
+      ∙ ap (λ r. option_map (onto_scores M (handed_to ls v)) (var_says means r)) (join_at_other J vs l.partner (row c l.scores) v e)
       ∙ ap (λ o. option_map (onto_scores M (two_score M (option_map (link_scores means) o) c)) (var_says means (slice_get vs v))) (sym (first_on v l ls e)))
       (cases_eq v l.partner)
     where
@@ -99,6 +98,6 @@ module _ {E S K : Type 0} (M : Model E S) (laws : Laws M) (means : K → S) (J :
       none_some m o e f = let z : ◌≡◌ {A = ℕ} 0 1 = cc in omega arith
 
       later : ExactHand (hand J c vs (Some l)) ls
-      later x m r at there here u =
+      later x m r at there u =
           let apart : x ≡ l.partner → ⊥ = λ e. none_some m (first_link l.partner ls) d.1 (ap (λ q. first_link q ls) (sym e) ∙ at) in
-          ex x m r (first_on x l ls apart ∙ at) (sym (join_at_other J vs l.partner (at_four l.scores c false) (at_four l.scores c true) x apart) ∙ there) here u
+          ex x m r (first_on x l ls apart ∙ at) (sym (join_at_other J vs l.partner (row c l.scores) x apart) ∙ there) u

@@ -9,18 +9,18 @@ use Rattle.score.specs.Model.{Model}
 use Rattle.steps.specs.Change.{onto_one, onto_two, onto_scores, onto_pair}
 use Rattle.score.specs.declared.values.Four.{Four}
 use Rattle.records.specs.declared.pairs.Pair.{Pair}
-use Rattle.sheets.specs.declared.variables.Var.{Var}
+use Rattle.score.specs.declared.values.Two.{Two}
 use Rattle.sheets.specs.Changed.{join_at, post}
-use Rattle.records.specs.Pairs.{joined_four, joined_pair, is_pair}
-use Rattle.sheets.specs.Variables.{joined_var, score_at}
-use Rattle.score.specs.Values.{at_four}
+use Rattle.records.specs.Pairs.{joined_pair, is_pair}
+use Rattle.sheets.specs.Variables.{Var, joined_var}
+use Rattle.score.specs.Values.{at_two, joined_two, at_four, joined_four}
 use Rattle.worksheet.specs.Records.{found, var_scores, var_says, pair_scores, contents, Present, Placed, Apart}
 use Rattle.records.proofs.Lists.{nth_below, nth_set_same, nth_set_other}
 use Rattle.worksheet.proofs.Partners.{found_here, found_on_low, found_on_high}
 
-joined_var_at : {K : Type 0} (J : K → K → K) (r : Var K) (z o : K) (u : Bool) → score_at (joined_var J r z o) u ≡ J (score_at r u) (cond u o z)
-joined_var_at J r z o true = refl
-joined_var_at J r z o false = refl
+joined_two_at : {K : Type 0} (J : K → K → K) (r t : Two K) (u : Bool) → at_two (joined_two J r t) u ≡ J (at_two r u) (at_two t u)
+joined_two_at J r t true = refl
+joined_two_at J r t false = refl
 
 joined_four_at : {K : Type 0} (J : K → K → K) (f g : Four K) (u w : Bool) → at_four (joined_four J f g) u w ≡ J (at_four f u w) (at_four g u w)
 joined_four_at J f g false false = refl
@@ -28,69 +28,69 @@ joined_four_at J f g false true = refl
 joined_four_at J f g true false = refl
 joined_four_at J f g true true = refl
 
-module _ {K : Type 0} (J : K → K → K) (vs : List (Var K)) (x : ℕ) (z o : K) where
-  pub join_at_some : (r : Var K) → slice_get vs x ≡ Some r → join_at J vs x z o ≡ set vs x (joined_var J r z o)
-  join_at_some r e = ap (λ q. elim q [ None ↦ vs | Some r ↦ set vs x (joined_var J r z o) ]) e
+module _ {K : Type 0} (J : K → K → K) (vs : List (Var K)) (x : ℕ) (t : Two K) where
+  join_at_some : (r : Var K) → slice_get vs x ≡ Some r → join_at J vs x t ≡ set vs x (joined_var J r t)
+  join_at_some r e = ap (λ q. elim q [ None ↦ vs | Some r ↦ set vs x (joined_var J r t) ]) e
 
-  pub join_at_other : (v : ℕ) → (v ≡ x → ⊥) → slice_get (join_at J vs x z o) v ≡ slice_get vs v
+  pub join_at_other : (v : ℕ) → (v ≡ x → ⊥) → slice_get (join_at J vs x t) v ≡ slice_get vs v
   join_at_other v d = go (slice_get vs x)
     where
-      go : (q : Option (Var K)) → slice_get (elim q [ None ↦ vs | Some r ↦ set vs x (joined_var J r z o) ]) v ≡ slice_get vs v
+      go : (q : Option (Var K)) → slice_get (elim q [ None ↦ vs | Some r ↦ set vs x (joined_var J r t) ]) v ≡ slice_get vs v
       go None = refl
-      go (Some r) = nth_set_other vs x v (joined_var J r z o) d
+      go (Some r) = nth_set_other vs x v (joined_var J r t) d
 
-  pub join_at_same : (r : Var K) → slice_get vs x ≡ Some r → slice_get (join_at J vs x z o) x ≡ Some (joined_var J r z o)
-  join_at_same r e = ap (λ ws. slice_get ws x) (join_at_some r e) ∙ nth_set_same vs x (joined_var J r z o) (nth_below vs x r e)
+  pub join_at_same : (r : Var K) → slice_get vs x ≡ Some r → slice_get (join_at J vs x t) x ≡ Some (joined_var J r t)
+  join_at_same r e = ap (λ ws. slice_get ws x) (join_at_some r e) ∙ nth_set_same vs x (joined_var J r t) (nth_below vs x r e)
 
-  pub join_at_length : length (join_at J vs x z o) ≡ length vs
+  pub join_at_length : length (join_at J vs x t) ≡ length vs
   join_at_length = go (slice_get vs x)
     where
-      go : (q : Option (Var K)) → length {A = Var K} (elim q [ None ↦ vs | Some r ↦ set vs x (joined_var J r z o) ]) ≡ length vs
+      go : (q : Option (Var K)) → length {A = Var K} (elim q [ None ↦ vs | Some r ↦ set vs x (joined_var J r t) ]) ≡ length vs
       go None = refl
-      go (Some r) = length-set vs x (joined_var J r z o)
+      go (Some r) = length-set vs x (joined_var J r t)
 
-  pub join_at_present : (v : ℕ) → Present vs v → Present (join_at J vs x z o) v
+  join_at_present : (v : ℕ) → Present vs v → Present (join_at J vs x t) v
   join_at_present v h =
       ⊎_elim
-      (λ (e : v ≡ x). (joined_var J h.0 z o, subst (λ q. slice_get (join_at J vs x z o) q ≡ Some (joined_var J h.0 z o)) (sym e) (join_at_same h.0 (subst (λ q. slice_get vs q ≡ Some h.0) e h.1)), h.2))
-      (λ (e : v ≡ x → ⊥). (h.0, join_at_other v e ∙ h.1, h.2))
+      (λ (e : v ≡ x). (joined_two J h.0 t, ap (slice_get (join_at J vs x t)) e ∙ join_at_same (Some h.0) (ap (slice_get vs) (sym e) ∙ h.1)))
+      (λ (e : v ≡ x → ⊥). (h.0, join_at_other v e ∙ h.1))
       (cases_eq v x)
 
-  pub join_at_placed : (ps : List (Pair K)) → AllByRecursion (Placed vs) ps → AllByRecursion (Placed (join_at J vs x z o)) ps
+  pub join_at_placed : (ps : List (Pair K)) → AllByRecursion (Placed vs) ps → AllByRecursion (Placed (join_at J vs x t)) ps
   join_at_placed [] h = tt
   join_at_placed (p ∷ ps) h = (
     record { lower_first = h.0.lower_first; low_present = join_at_present p.low h.0.low_present; high_present = join_at_present p.high h.0.high_present },
     join_at_placed ps h.1,
   )
 
-module _ {E S K : Type 0} (M : Model E S) (means : K → S) (J : K → K → K) (vs : List (Var K)) (x : ℕ) (z o : K) (g : Bool → S)
-    (exact : (r : Var K) → slice_get vs x ≡ Some r → r.present ≡ true → (u : Bool) → means (J (score_at r u) (cond u o z)) ≡ M.join (means (score_at r u)) (g u)) where
+module _ {E S K : Type 0} (M : Model E S) (means : K → S) (J : K → K → K) (vs : List (Var K)) (x : ℕ) (t : Two K) (g : Bool → S)
+    (exact : (r : Two K) → slice_get vs x ≡ Some (Some r) → (u : Bool) → means (J (at_two r u) (at_two t u)) ≡ M.join (means (at_two r u)) (g u)) where
   -- what x then says
-  pub joined_says : var_says means (slice_get (join_at J vs x z o) x) ≡ option_map (onto_scores M g) (var_says means (slice_get vs x))
+  pub joined_says : var_says means (slice_get (join_at J vs x t) x) ≡ option_map (onto_scores M g) (var_says means (slice_get vs x))
   joined_says = go (slice_get vs x) refl
     where
-      there : (r : Var K) → slice_get vs x ≡ Some r → (b : Bool) → r.present ≡ b
-          → cond b (Some (var_scores means (joined_var J r z o))) None ≡ option_map (onto_scores M g) (cond b (Some (var_scores means r)) None)
-      there r e true p = ap Some (fun_ext (λ u. ap means (joined_var_at J r z o u) ∙ exact r e p u))
-      there r e false p = refl
+      there : (r : Var K) → slice_get vs x ≡ Some r
+          → option_map (var_scores means) (joined_var J r t) ≡ option_map (onto_scores M g) (option_map (var_scores means) r)
+      there None e = refl
+      there (Some r) e = ap Some (fun_ext (λ u. ap means (joined_two_at J r t u) ∙ exact r e u))
 
-      go : (q : Option (Var K)) → slice_get vs x ≡ q → var_says means (slice_get (join_at J vs x z o) x) ≡ option_map (onto_scores M g) (var_says means q)
-      go None e = ap (λ q. var_says means (slice_get (elim q [ None ↦ vs | Some r ↦ set vs x (joined_var J r z o) ]) x)) e ∙ ap (var_says means) e
-      go (Some r) e = ap (var_says means) (join_at_same J vs x z o r e) ∙ there r e r.present refl
+      go : (q : Option (Var K)) → slice_get vs x ≡ q → var_says means (slice_get (join_at J vs x t) x) ≡ option_map (onto_scores M g) (var_says means q)
+      go None e = ap (λ q. var_says means (slice_get (elim q [ None ↦ vs | Some r ↦ set vs x (joined_var J r t) ]) x)) e ∙ ap (var_says means) e
+      go (Some r) e = ap (var_says means) (join_at_same J vs x t r e) ∙ there r e
 
-  pub onto_one_says : (base : K) (ps : List (Pair K)) → contents means base (join_at J vs x z o) ps ≡ onto_one M x g (contents means base vs ps)
+  pub onto_one_says : (base : K) (ps : List (Pair K)) → contents means base (join_at J vs x t) ps ≡ onto_one M x g (contents means base vs ps)
   onto_one_says base ps = λ i. record {
-    size = join_at_length J vs x z o i;
+    size = join_at_length J vs x t i;
     base = means base;
     one = λ v. one_is v i;
     two = λ a b. option_map (pair_scores means) (found a b ps);
   }
     where
-      one_is : (v : ℕ) → var_says means (slice_get (join_at J vs x z o) v) ≡ cond (eqb v x) (option_map (onto_scores M g) (var_says means (slice_get vs x))) (var_says means (slice_get vs v))
+      one_is : (v : ℕ) → var_says means (slice_get (join_at J vs x t) v) ≡ cond (eqb v x) (option_map (onto_scores M g) (var_says means (slice_get vs x))) (var_says means (slice_get vs v))
       one_is v =
           ⊎_elim
-          (λ (e : v ≡ x). ap (λ q. var_says means (slice_get (join_at J vs x z o) q)) e ∙ joined_says ∙ sym (cond-true (eqb v x) _ (var_says means (slice_get vs v)) (eq-eqb v x e)))
-          (λ (e : v ≡ x → ⊥). ap (var_says means) (join_at_other J vs x z o v e) ∙ sym (cond-false (eqb v x) _ (var_says means (slice_get vs v)) (ne_eqb v x e)))
+          (λ (e : v ≡ x). ap (λ q. var_says means (slice_get (join_at J vs x t) q)) e ∙ joined_says ∙ sym (cond-true (eqb v x) _ (var_says means (slice_get vs v)) (eq-eqb v x e)))
+          (λ (e : v ≡ x → ⊥). ap (var_says means) (join_at_other J vs x t v e) ∙ sym (cond-false (eqb v x) _ (var_says means (slice_get vs v)) (ne_eqb v x e)))
           (cases_eq v x)
 
 -- A post onto a pair -----------------------------------------------------------------------------------------------------------------

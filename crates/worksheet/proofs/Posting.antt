@@ -8,7 +8,7 @@ use Rattle.score.specs.declared.values.Four.{Four}
 use Rattle.records.specs.declared.pairs.Pair.{Pair}
 use Rattle.records.specs.Pairs.{is_pair, joined_pair, place}
 use Rattle.records.proofs.Lists.{take_set, nth_take}
-use Rattle.records.proofs.Places.{some_suc, place_below}
+use Rattle.records.proofs.Places.{some_suc, place_cons, place_below}
 use Rattle.sheets.specs.Changed.{post, join_pair_at, post_in, post_used}
 
 module _ {K : Type 0} (x z : ℕ) where
@@ -17,10 +17,10 @@ module _ {K : Type 0} (x z : ℕ) where
     post_new [] e = refl
     post_new (p ∷ ps) e =
         ⊎_elim
-        (λ (t : is_pair x z p ≡ true). let s : None ≡ Some 0 = e ∙ cond-true (is_pair x z p) (Some 0) (option_map suc (place x z ps)) t in let k : ◌≡◌ {A = ℕ} 0 1 = cc in absurd (omega arith))
+        (λ (t : is_pair x z p ≡ true). let s : None ≡ Some 0 = e ∙ place_cons x z p ps ∙ cond-true (is_pair x z p) (Some 0) (option_map suc (place x z ps)) t in absurd cc)
         (λ (t : is_pair x z p ≡ false).
         cond-false (is_pair x z p) _ (p ∷ post J x z f ps) t
-        ∙ ap (λ qs. p ∷ qs) (post_new ps (none_suc (place x z ps) (e ∙ cond-false (is_pair x z p) (Some 0) (option_map suc (place x z ps)) t))))
+        ∙ ap (λ qs. p ∷ qs) (post_new ps (none_suc (place x z ps) (e ∙ place_cons x z p ps ∙ cond-false (is_pair x z p) (Some 0) (option_map suc (place x z ps)) t))))
         (cases_Bool (is_pair x z p))
       where
         none_suc : (o : Option ℕ) → None ≡ option_map suc o → None ≡ o
@@ -32,11 +32,11 @@ module _ {K : Type 0} (x z : ℕ) where
     post_at (p ∷ ps) i e =
         ⊎_elim
         (λ (t : is_pair x z p ≡ true).
-        let s : Some 0 ≡ Some i = sym (cond-true (is_pair x z p) (Some 0) (option_map suc (place x z ps)) t) ∙ e in
+        let s : Some 0 ≡ Some i = sym (place_cons x z p ps ∙ cond-true (is_pair x z p) (Some 0) (option_map suc (place x z ps)) t) ∙ e in
         let k : 0 ≡ i = cc in
         cond-true (is_pair x z p) (joined_pair J p f ∷ ps) (p ∷ post J x z f ps) t ∙ ap (λ j. join_pair_at J (p ∷ ps) j f) k)
         (λ (t : is_pair x z p ≡ false).
-        let q = some_suc (place x z ps) i (sym (cond-false (is_pair x z p) (Some 0) (option_map suc (place x z ps)) t) ∙ e) in
+        let q = some_suc (place x z ps) i (sym (place_cons x z p ps ∙ cond-false (is_pair x z p) (Some 0) (option_map suc (place x z ps)) t) ∙ e) in
         cond-false (is_pair x z p) (joined_pair J p f ∷ ps) (p ∷ post J x z f ps) t
         ∙ ap (λ qs. p ∷ qs) (post_at ps q.0 q.2)
         ∙ behind q.0 (slice_get ps q.0) refl

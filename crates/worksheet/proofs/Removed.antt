@@ -20,14 +20,14 @@ use Rattle.notes.specs.declared.removal.Removal.{Removal}
 use Rattle.score.specs.declared.values.Four.{Four}
 use Rattle.records.specs.declared.pairs.Link.{Link}
 use Rattle.records.specs.declared.pairs.Pair.{Pair}
-use Rattle.sheets.specs.declared.variables.Var.{Var}
+use Rattle.score.specs.declared.values.Two.{Two}
+use Rattle.sheets.specs.Variables.{Var}
 use Rattle.sheets.specs.Changed.{chosen, choose_held, worth_one, worth_two, two_best, two_scores, join_at, handed, kept, post}
-use Rattle.sheets.specs.Variables.{gone, score_at}
 use Rattle.worksheet.specs.Left.{AloneLeft, OneLeft, TwoLeft, SetLeft}
 use Rattle.partners.specs.Links.{links, first_link, present_at, alone_at, one_at, two_at}
 use Rattle.notes.specs.Removals.{note_of}
 use Rattle.worksheet.specs.Noting.{alone_note, one_note, two_note, set_note}
-use Rattle.score.specs.Values.{at_four}
+use Rattle.score.specs.Values.{at_two, at_four}
 use Rattle.worksheet.specs.Records.{link_scores, pair_scores, var_says, var_scores, found, contents, Arranged}
 use Rattle.worksheet.proofs.Asked.{present_is, absent_is, alone_asked, alone_unasked, one_asked, one_unasked, two_asked, two_unasked}
 use Rattle.worksheet.proofs.Handing.{hand_all, handed_links, hand_all_length, hand_all_placed, hand_all_other, hand_says}
@@ -59,15 +59,15 @@ module _ {E S K : Type 0} (M : Model E S) (means : K → S) where
       go false = q
 
 module _ {E S K : Type 0} (M : Model E S) (means : K → S) (b : K) (vs : List (Var K)) (ps : List (Pair K)) (arranged : Arranged vs ps)
-    (y : ℕ) (r : Var K) (there : slice_get vs y ≡ Some r) (here : r.present ≡ true) where
+    (y : ℕ) (r : Two K) (there : slice_get vs y ≡ Some (Some r)) where
   abbrev sheet : Sheet Bool S
   sheet = contents means b vs ps
 
   remains_is : remains sheet y ≡ true
-  remains_is = ap (λ o. is_some (var_says means o)) there ∙ ap (λ t. is_some (cond t (Some (var_scores means r)) None)) here
+  remains_is = ap (λ o. is_some (var_says means o)) there
 
-  own_is : (w : Bool) → own M sheet y w ≡ means (score_at r w)
-  own_is w = ap (λ o. one_score M (var_says means o) w) there ∙ ap (λ t. one_score M (cond t (Some (var_scores means r)) None) w) here
+  own_is : (w : Bool) → own M sheet y w ≡ means (at_two r w)
+  own_is w = ap (λ o. one_score M (var_says means o) w) there
 
   both_is : (x : ℕ) (l : Link K) → first_link x (links y ps) ≡ Some l → (w u : Bool) → both M sheet y x w u ≡ link_scores means l w u
   both_is x l e w u = ap (λ o. two_score M o w u) (pair_links means b vs ps (low_first vs ps arranged.placed) y x ∙ ap (option_map (link_scores means)) e)
@@ -117,25 +117,25 @@ module _ {E S K : Type 0} (M : Model E S) (laws : Laws M) (means : K → S) (J :
 
   -- Alone --------------------------------------------------------------------------------------------------------------------------
 
-  pub alone_done : (b b' : K) (vs vs' : List (Var K)) (ps : List (Pair K)) (y : ℕ) (r : Var K) (n : Removal)
-      → alone_at vs ps y ≡ Some r → b' ≡ J b (chosen M means r.zero r.one).score → vs' ≡ set vs y (gone r)
+  pub alone_done : (b b' : K) (vs vs' : List (Var K)) (ps : List (Pair K)) (y : ℕ) (r : Two K) (n : Removal)
+      → alone_at vs ps y ≡ Some r → b' ≡ J b (chosen M means r.zero r.one).score → vs' ≡ set vs y None
       → n ≡ alone_note y (chosen M means r.zero r.one) → AloneLeft M means b b' vs vs' ps y (Some n)
   alone_done b b' vs vs' ps y r n at b_is vs_is n_is arranged =
       let q = alone_asked vs ps y r at in
       let s = contents means b vs ps in
-      let all : kept y ps ≡ ps = kept_all y ps q.2 in
-      let own_y = own_is M means b vs ps arranged y r q.0 q.1 in
-      let present = remains_is M means b vs ps arranged y r q.0 q.1 in (
+      let all : kept y ps ≡ ps = kept_all y ps q.1 in
+      let own_y = own_is M means b vs ps arranged y r q.0 in
+      let present = remains_is M means b vs ps arranged y r q.0 in (
         present,
-        degree_is M means b vs ps arranged y r q.0 q.1 0 [] q.2 refl,
+        degree_is M means b vs ps arranged y r q.0 0 [] q.1 refl,
         record {
-          arranged = subst (λ ws. Arranged ws ps) (sym vs_is) (subst (Arranged (set vs y (gone r))) all (leaving_arranged vs y r q.0 ps arranged));
-          others = λ v h. ap (λ ws. slice_get ws v) vs_is ∙ nth_set_other vs y v (gone r) (eqb-false v y h);
+          arranged = subst (λ ws. Arranged ws ps) (sym vs_is) (subst (Arranged (set vs y None)) all (leaving_arranged vs y r q.0 ps arranged));
+          others = λ v h. ap (λ ws. slice_get ws v) vs_is ∙ nth_set_other vs y v None (eqb-false v y h);
           other_pairs = λ _ _ _. refl;
           note_is = λ _. ap note_of n_is ∙ alone_means y (chosen M means r.zero r.one) ∙ ap (λ c. noted y (alone c)) (bank_second M means y (own M s y) r.zero r.one (sym (own_y false)) (sym (own_y true)));
           says_is = λ jx.
               ap₂ (λ c ws. contents means c ws ps) b_is vs_is
-              ∙ ap (contents means (J b (chosen M means r.zero r.one).score) (set vs y (gone r))) (sym all)
+              ∙ ap (contents means (J b (chosen M means r.zero r.one).score) (set vs y None)) (sym all)
               ∙ leaving vs y r q.0 means (J b (chosen M means r.zero r.one).score) ps
               ∙ ap (λ c. based c (without y s))
               (exactly b _ s.base _ refl (bank_score M means y (own M s y) r.zero r.one (sym (own_y false)) (sym (own_y true))) (jx.onto_base y (choose M banks y (own M s y)) present));
@@ -152,7 +152,7 @@ module _ {E S K : Type 0} (M : Model E S) (laws : Laws M) (means : K → S) (J :
       → one_at vs ps y ≡ Some x
       → at0 ≡ chosen M means (worth_one J x.var x.link false false) (worth_one J x.var x.link false true)
       → at1 ≡ chosen M means (worth_one J x.var x.link true false) (worth_one J x.var x.link true true)
-      → vs' ≡ join_at J (set vs y (gone x.var)) x.link.partner at0.score at1.score
+      → vs' ≡ join_at J (set vs y None) x.link.partner (record { zero = at0.score; one = at1.score })
       → ps' ≡ kept y ps → n ≡ one_note y x.link.partner at0 at1 → OneLeft M means vs vs' ps ps' y (Some n)
   one_done vs vs' ps ps' y by n at0 at1 at at0_is at1_is vs_is ps_is n_is b arranged =
       let q = one_asked vs ps y by at in
@@ -160,11 +160,11 @@ module _ {E S K : Type 0} (M : Model E S) (laws : Laws M) (means : K → S) (J :
       let r = by.var in
       let l = by.link in
       let x = l.partner in
-      let first : first_link x (links y ps) ≡ Some l = ap (first_link x) q.2 ∙ first_here x l [] refl in
-      let partner = partner_is M means b vs ps arranged y r q.0 q.1 x l first in
-      let apart : x ≡ y → ⊥ = other_is M means b vs ps arranged y r q.0 q.1 x partner in
-      let own_y = own_is M means b vs ps arranged y r q.0 q.1 in
-      let both_y = both_is M means b vs ps arranged y r q.0 q.1 x l first in
+      let first : first_link x (links y ps) ≡ Some l = ap (first_link x) q.1 ∙ first_here x l [] refl in
+      let partner = partner_is M means b vs ps arranged y r q.0 x l first in
+      let apart : x ≡ y → ⊥ = other_is M means b vs ps arranged y r q.0 x partner in
+      let own_y = own_is M means b vs ps arranged y r q.0 in
+      let both_y = both_is M means b vs ps arranged y r q.0 x l first in
       let left = leaving_arranged vs y r q.0 ps arranged in
       let worth : JoinsExact M s → (u w : Bool) → means (worth_one J r l u w) ≡ with_one M s y x u w
       = λ jx u w. exactly _ _ _ _ (sym (own_y w)) (sym (both_y w u)) (jx.with_pair y x w u partner) in
@@ -177,24 +177,24 @@ module _ {E S K : Type 0} (M : Model E S) (laws : Laws M) (means : K → S) (J :
       (ap (λ c. means c.score) at0_is ∙ bank_score M means y (with_one M s y x false) _ _ (worth jx false false) (worth jx false true))
       (ap (λ c. means c.score) at1_is ∙ bank_score M means y (with_one M s y x true) _ _ (worth jx true false) (worth jx true true)) in (
         x,
-        remains_is M means b vs ps arranged y r q.0 q.1,
-        degree_is M means b vs ps arranged y r q.0 q.1 1 (l ∷ []) q.2 refl,
+        remains_is M means b vs ps arranged y r q.0,
+        degree_is M means b vs ps arranged y r q.0 1 (l ∷ []) q.1 refl,
         partner,
         record {
-          arranged = subst (λ ws. Arranged ws ps') (sym vs_is) (subst (Arranged (join_at J (set vs y (gone r)) x at0.score at1.score)) (sym ps_is)
-              (record { placed = join_at_placed J (set vs y (gone r)) x at0.score at1.score (kept y ps) left.placed; apart = left.apart }));
+          arranged = subst (λ ws. Arranged ws ps') (sym vs_is) (subst (Arranged (join_at J (set vs y None) x (record { zero = at0.score; one = at1.score }))) (sym ps_is)
+              (record { placed = join_at_placed J (set vs y None) x (record { zero = at0.score; one = at1.score }) (kept y ps) left.placed; apart = left.apart }));
           others = λ v h.
               let d = or_parts (eqb v y) (eqb v x) h in
-              ap (λ ws. slice_get ws v) vs_is ∙ join_at_other J (set vs y (gone r)) x at0.score at1.score v (eqb-false v x d.1) ∙ nth_set_other vs y v (gone r) (eqb-false v y d.0);
+              ap (λ ws. slice_get ws v) vs_is ∙ join_at_other J (set vs y None) x (record { zero = at0.score; one = at1.score }) v (eqb-false v x d.1) ∙ nth_set_other vs y v None (eqb-false v y d.0);
           other_pairs = λ a c h. ap (found a c) ps_is ∙ found_kept y ps a c ∙ cond-false (eqb a y || eqb c y) None (found a c ps) h;
           note_is = λ jx. ap note_of n_is ∙ one_means y x at0 at1 ∙ ap (λ f. noted y (by_one x f)) (fun_ext (seconds jx));
           says_is = λ jx.
               ap₂ (contents means b) vs_is ps_is
-              ∙ onto_one_says M means J (set vs y (gone r)) x at0.score at1.score (λ u. with_one M s y x u (choose M banks y (with_one M s y x u)))
-              (λ rx at_x present u.
-              exactly (score_at rx u) (cond u at1.score at0.score) (means (score_at rx u)) _ refl (scores jx u)
+              ∙ onto_one_says M means J (set vs y None) x (record { zero = at0.score; one = at1.score }) (λ u. with_one M s y x u (choose M banks y (with_one M s y x u)))
+              (λ rx at_x u.
+              exactly (at_two rx u) (cond u at1.score at0.score) (means (at_two rx u)) _ refl (scores jx u)
               (subst (λ z. Together M z (with_one M s y x u (choose M banks y (with_one M s y x u))))
-              (own_is M means b vs ps arranged x rx (sym (nth_set_other vs y x (gone r) apart) ∙ at_x) present u)
+              (own_is M means b vs ps arranged x rx (sym (nth_set_other vs y x None apart) ∙ at_x) u)
               (jx.onto_one y x (choose M banks y (with_one M s y x u)) u partner)))
               b (kept y ps)
               ∙ ap (onto_one M x (λ u. with_one M s y x u (choose M banks y (with_one M s y x u)))) (leaving vs y r q.0 means b ps);
@@ -211,32 +211,32 @@ module _ {E S K : Type 0} (M : Model E S) (laws : Laws M) (means : K → S) (J :
 
   -- Set ------------------------------------------------------------------------------------------------------------------------------
 
-  pub set_done : (b b' : K) (vs vs' : List (Var K)) (ps ps' : List (Pair K)) (y : ℕ) (c : Bool) (r : Var K) (n : Removal)
-      → present_at vs y ≡ Some r → b' ≡ J b (score_at r c) → vs' ≡ handed J y c (set vs y (gone r)) ps → ps' ≡ kept y ps → n ≡ set_note y c
+  pub set_done : (b b' : K) (vs vs' : List (Var K)) (ps ps' : List (Pair K)) (y : ℕ) (c : Bool) (r : Two K) (n : Removal)
+      → present_at vs y ≡ Some r → b' ≡ J b (at_two r c) → vs' ≡ handed J y c (set vs y None) ps → ps' ≡ kept y ps → n ≡ set_note y c
       → SetLeft M means b b' vs vs' ps ps' y c (Some n)
   set_done b b' vs vs' ps ps' y c r n at b_is vs_is ps_is n_is arranged =
-      let q = present_is vs y r at in
+      let there = present_is vs y r at in
       let s = contents means b vs ps in
       let ls = links y ps in
-      let ws = set vs y (gone r) in
-      let own_y = own_is M means b vs ps arranged y r q.0 q.1 in
-      let present = remains_is M means b vs ps arranged y r q.0 q.1 in
-      let left = leaving_arranged vs y r q.0 ps arranged in
+      let ws = set vs y None in
+      let own_y = own_is M means b vs ps arranged y r there in
+      let present = remains_is M means b vs ps arranged y r there in
+      let left = leaving_arranged vs y r there ps arranged in
       let vs_all : vs' ≡ hand_all J c ws ls = vs_is ∙ handed_links J c y ps ws in
-      let long : length vs' ≡ length vs = ap length vs_all ∙ hand_all_length J c ls ws ∙ length-set vs y (gone r) in
-      let exact_hand : JoinsExact M s → (x : ℕ) (l : Link K) (rx : Var K) → first_link x ls ≡ Some l → slice_get ws x ≡ Some rx → rx.present ≡ true → (u : Bool)
-      → means (J (score_at rx u) (at_four l.scores c u)) ≡ M.join (means (score_at rx u)) (link_scores means l c u)
-      = λ jx x l rx first at_x here u.
-      let partner = partner_is M means b vs ps arranged y r q.0 q.1 x l first in
-      let apart = other_is M means b vs ps arranged y r q.0 q.1 x partner in
-      exactly (score_at rx u) (at_four l.scores c u) (means (score_at rx u)) (link_scores means l c u) refl refl
-      (subst (λ t. Together M t (link_scores means l c u)) (own_is M means b vs ps arranged x rx (sym (nth_set_other vs y x (gone r) apart) ∙ at_x) here u)
-      (subst (Together M (own M s x u)) (both_is M means b vs ps arranged y r q.0 q.1 x l first c u) (jx.onto_partner y x c u partner))) in
+      let long : length vs' ≡ length vs = ap length vs_all ∙ hand_all_length J c ls ws ∙ length-set vs y None in
+      let exact_hand : JoinsExact M s → (x : ℕ) (l : Link K) (rx : Two K) → first_link x ls ≡ Some l → slice_get ws x ≡ Some (Some rx) → (u : Bool)
+      → means (J (at_two rx u) (at_four l.scores c u)) ≡ M.join (means (at_two rx u)) (link_scores means l c u)
+      = λ jx x l rx first at_x u.
+      let partner = partner_is M means b vs ps arranged y r there x l first in
+      let apart = other_is M means b vs ps arranged y r there x partner in
+      exactly (at_two rx u) (at_four l.scores c u) (means (at_two rx u)) (link_scores means l c u) refl refl
+      (subst (λ t. Together M t (link_scores means l c u)) (own_is M means b vs ps arranged x rx (sym (nth_set_other vs y x None apart) ∙ at_x) u)
+      (subst (Together M (own M s x u)) (both_is M means b vs ps arranged y r there x l first c u) (jx.onto_partner y x c u partner))) in
       let one_is : JoinsExact M s → (v : ℕ) → var_says means (slice_get vs' v) ≡ cond (eqb v y) None (option_map (onto_scores M (both M s y v c)) (s.one v))
       = λ jx v.
       ap (λ xs. var_says means (slice_get xs v)) vs_all
       ∙ hand_says M laws means J c (length vs) ls ws (distinct vs ps arranged.placed arranged.apart y) (exact_hand jx) v
-      ∙ ap (option_map (onto_scores M (two_score M (option_map (link_scores means) (first_link v ls)) c))) (gone_says vs y r q.0 means v)
+      ∙ ap (option_map (onto_scores M (two_score M (option_map (link_scores means) (first_link v ls)) c))) (gone_says vs y r there means v)
       ∙ ap (λ o. option_map (onto_scores M (two_score M o c)) (cond (eqb v y) None (var_says means (slice_get vs v)))) (sym (pair_links means b vs ps (low_first vs ps arranged.placed) y v))
       ∙ through (onto_scores M (both M s y v c)) (eqb v y) (var_says means (slice_get vs v)) in (
         present,
@@ -247,14 +247,14 @@ module _ {E S K : Type 0} (M : Model E S) (laws : Laws M) (means : K → S) (J :
               let d = or_parts (eqb v y) (partners s y v) h in
               ap (λ xs. slice_get xs v) vs_all
               ∙ hand_all_other J c ls ws v (none_of (first_link v ls) (sym (partners_links means b vs ps arranged.placed y v) ∙ d.1))
-              ∙ nth_set_other vs y v (gone r) (eqb-false v y d.0);
+              ∙ nth_set_other vs y v None (eqb-false v y d.0);
           other_pairs = λ a e h. ap (found a e) ps_is ∙ found_kept y ps a e ∙ cond-false (eqb a y || eqb e y) None (found a e ps) h;
           note_is = λ _. ap note_of n_is ∙ set_means y c;
           says_is = λ jx.
-              let two_is = leaving vs y r q.0 means b ps in
+              let two_is = leaving vs y r there means b ps in
               λ i. record {
                 size = long i;
-                base = (ap means b_is ∙ exactly b (score_at r c) s.base (own M s y c) refl (sym (own_y c)) (jx.onto_base y c present)) i;
+                base = (ap means b_is ∙ exactly b (at_two r c) s.base (own M s y c) refl (sym (own_y c)) (jx.onto_base y c present)) i;
                 one = λ v. one_is jx v i;
                 two = (ap (λ qs. (contents means b' vs' qs).two) ps_is ∙ ap (λ t. t.two) two_is) i;
               };
@@ -276,7 +276,7 @@ module _ {E S K : Type 0} (M : Model E S) (laws : Laws M) (means : K → S) (J :
 
   pub two_done : (vs vs' : List (Var K)) (ps ps' : List (Pair K)) (y : ℕ) (x : ByTwo K) (n : Removal) (best : Four (Choice K)) (f : Four K)
       → two_at vs ps y ≡ Some x → best ≡ two_best M means J x.var x.low x.high → f ≡ two_scores best
-      → vs' ≡ set vs y (gone x.var) → ps' ≡ post J x.low.partner x.high.partner f (kept y ps)
+      → vs' ≡ set vs y None → ps' ≡ post J x.low.partner x.high.partner f (kept y ps)
       → n ≡ two_note y x.low.partner x.high.partner best → TwoLeft M means vs vs' ps ps' y (Some n)
   two_done vs vs' ps ps' y by n best f at best_is f_is vs_is ps_is n_is b arranged =
       let q = two_asked vs ps y by at in
@@ -286,18 +286,18 @@ module _ {E S K : Type 0} (M : Model E S) (laws : Laws M) (means : K → S) (J :
       let m = by.high in
       let x = l.partner in
       let z = m.partner in
-      let ws = set vs y (gone r) in
-      let d = two_distinct (length vs) l m (links y ps) (distinct vs ps arranged.placed arranged.apart y) q.3 in
-      let lt : x < z = omega (arith, q.2, d) in
-      let first_x : first_link x (links y ps) ≡ Some l = two_first_low l m (links y ps) d q.3 in
-      let first_z : first_link z (links y ps) ≡ Some m = two_first_high l m (links y ps) d q.3 in
-      let px = partner_is M means b vs ps arranged y r q.0 q.1 x l first_x in
-      let pz = partner_is M means b vs ps arranged y r q.0 q.1 z m first_z in
-      let apart_x = other_is M means b vs ps arranged y r q.0 q.1 x px in
-      let apart_z = other_is M means b vs ps arranged y r q.0 q.1 z pz in
-      let own_y = own_is M means b vs ps arranged y r q.0 q.1 in
-      let both_x = both_is M means b vs ps arranged y r q.0 q.1 x l first_x in
-      let both_z = both_is M means b vs ps arranged y r q.0 q.1 z m first_z in
+      let ws = set vs y None in
+      let d = two_distinct (length vs) l m (links y ps) (distinct vs ps arranged.placed arranged.apart y) q.2 in
+      let lt : x < z = omega (arith, q.1, d) in
+      let first_x : first_link x (links y ps) ≡ Some l = two_first_low l m (links y ps) d q.2 in
+      let first_z : first_link z (links y ps) ≡ Some m = two_first_high l m (links y ps) d q.2 in
+      let px = partner_is M means b vs ps arranged y r q.0 x l first_x in
+      let pz = partner_is M means b vs ps arranged y r q.0 z m first_z in
+      let apart_x = other_is M means b vs ps arranged y r q.0 x px in
+      let apart_z = other_is M means b vs ps arranged y r q.0 z pz in
+      let own_y = own_is M means b vs ps arranged y r q.0 in
+      let both_x = both_is M means b vs ps arranged y r q.0 x l first_x in
+      let both_z = both_is M means b vs ps arranged y r q.0 z m first_z in
       let left = leaving_arranged vs y r q.0 ps arranged in
       let worth : JoinsExact M s → (u t w : Bool) → means (worth_two J r l m u t w) ≡ with_two M s y x z u t w
       = λ jx u t w.
@@ -319,8 +319,8 @@ module _ {E S K : Type 0} (M : Model E S) (laws : Laws M) (means : K → S) (J :
       = found_kept y ps x z ∙ cond-false (eqb x y || eqb z y) None (found x z ps) (or_from (eqb x y) (eqb z y) (ne_eqb x y apart_x) (ne_eqb z y apart_z)) in (
         x,
         z,
-        remains_is M means b vs ps arranged y r q.0 q.1,
-        two_degree (degree_is M means b vs ps arranged y r q.0 q.1 2) l m q.3,
+        remains_is M means b vs ps arranged y r q.0,
+        two_degree (degree_is M means b vs ps arranged y r q.0 2) l m q.2,
         px,
         pz,
         lt,
@@ -333,7 +333,7 @@ module _ {E S K : Type 0} (M : Model E S) (laws : Laws M) (means : K → S) (J :
                     left.placed;
                 apart = post_apart J x z f (kept y ps) left.apart;
               }));
-          others = λ v h. ap (λ xs. slice_get xs v) vs_is ∙ nth_set_other vs y v (gone r) (eqb-false v y h);
+          others = λ v h. ap (λ xs. slice_get xs v) vs_is ∙ nth_set_other vs y v None (eqb-false v y h);
           other_pairs = λ a e h.
               let k = or_parts (eqb a y || eqb e y) (eqb a x && eqb e z) h in
               ap (found a e) ps_is
@@ -364,7 +364,7 @@ module _ {E S K : Type 0} (M : Model E S) (laws : Laws M) (means : K → S) (J :
       → take rest gone_from ≡ kept y (take used all) → rest ≤ length all → length gone_from ≡ length all → (rest < length gone_from) × (rest < used)
   two_room vs all gone_from used rest y x at kept_is within long =
       let q = two_asked vs (take used all) y x at in
-      let fewer = kept_fewer y (take used all) (two_some x.low x.high (links y (take used all)) q.3) in
+      let fewer = kept_fewer y (take used all) (two_some x.low x.high (links y (take used all)) q.2) in
       let rest_is : length (take rest gone_from) ≡ length (kept y (take used all)) = ap length kept_is in
       (omega (arith, fewer, rest_is, within, long, length-take rest gone_from, length-take used all), omega (arith, fewer, rest_is, within, long, length-take rest gone_from, length-take used all))
 

@@ -15,12 +15,12 @@ use Rattle.steps.specs.Sheet.{Sheet, over, numbers, one_score, two_score}
 use Rattle.steps.proofs.Counting.{numbers_laws}
 use Rattle.steps.proofs.Joins.{over_same, over_join, over_neutral}
 use Rattle.records.specs.declared.pairs.Pair.{Pair}
-use Rattle.sheets.specs.declared.variables.Var.{Var}
-use Rattle.sheets.specs.Totals.{best_var, best_pair, with_vars, with_pairs, with_arm, arms}
+use Rattle.score.specs.declared.values.Two.{Two}
+use Rattle.sheets.specs.Totals.{best_of_two, low_bests, best_pair, with_vars, with_pairs, with_arm, arms}
 use Rattle.worksheet.specs.Bounds.{largest_score, best_four, arm, star_score}
 use Rattle.sheets.specs.Changed.{chosen, choose_held}
-use Rattle.sheets.specs.Variables.{joined_var, score_at}
-use Rattle.score.specs.Values.{at_four}
+use Rattle.sheets.specs.Variables.{Var, joined_var}
+use Rattle.score.specs.Values.{at_two, joined_two, at_four}
 use Rattle.records.specs.Pairs.{is_pair}
 use Rattle.worksheet.specs.Records.{var_scores, var_says, pair_scores, found, contents, Present, Placed, Arranged}
 use Rattle.records.proofs.Lists.{nth_none, nth_below}
@@ -78,10 +78,10 @@ module _ {E S K : Type 0} (M : Model E S) (means : K → S) (b : K) (vs : List (
   abbrev pub pair_count : ℕ → ℕ → ℕ
   pair_count a z = two_score numbers (few.counts.two a z) tt tt
 
-  pub var_of : (v : ℕ) (r : Var K) → slice_get vs v ≡ Some r → r.present ≡ true → (u : Bool) → Of M (var_count v) (means (score_at r u))
-  var_of v r there here =
+  pub var_of : (v : ℕ) (r : Two K) → slice_get vs v ≡ Some (Some r) → (u : Bool) → Of M (var_count v) (means (at_two r u))
+  var_of v r there =
       one_some M (few.counts.one v) (var_scores means r)
-      (subst (OneOf M (few.counts.one v)) (ap (var_says means) there ∙ cond-true r.present (Some (var_scores means r)) None here) (few.counted.one_of v))
+      (subst (OneOf M (few.counts.one v)) (ap (var_says means) there) (few.counted.one_of v))
 
   pub pair_of : (a z : ℕ) (p : Pair K) → found a z ps ≡ Some p → (u w : Bool) → Of M (pair_count a z) (pair_scores means p u w)
   pair_of a z p e =
@@ -91,15 +91,13 @@ module _ {E S K : Type 0} (M : Model E S) (means : K → S) (b : K) (vs : List (
   var_weight : (v : ℕ) → of_var 0 (λ _. var_count v) (slice_get vs v) ≡ var_count v
   var_weight v = go (slice_get vs v) refl
     where
+      none : var_says means (slice_get vs v) ≡ None → 0 ≡ var_count v
+      none e = sym (one_none M (few.counts.one v) (subst (OneOf M (few.counts.one v)) e (few.counted.one_of v)))
+
       go : (o : Option (Var K)) → slice_get vs v ≡ o → of_var 0 (λ _. var_count v) o ≡ var_count v
-      go None e = sym (one_none M (few.counts.one v) (subst (OneOf M (few.counts.one v)) (ap (var_says means) e) (few.counted.one_of v)))
-      go (Some r) e =
-          ⊎_elim
-          (λ (t : r.present ≡ true). cond-true r.present (var_count v) 0 t)
-          (λ (t : r.present ≡ false).
-          cond-false r.present (var_count v) 0 t
-          ∙ sym (one_none M (few.counts.one v) (subst (OneOf M (few.counts.one v)) (ap (var_says means) e ∙ cond-false r.present (Some (var_scores means r)) None t) (few.counted.one_of v))))
-          (cases_Bool r.present)
+      go None e = none (ap (var_says means) e)
+      go (Some None) e = none (ap (var_says means) e)
+      go (Some (Some r)) e = refl
 
   pub pair_weight : (a z : ℕ) → of_pair 0 (λ p. pair_count p.low p.high) (found a z ps) ≡ pair_count a z
   pair_weight a z = go (found a z ps) refl
@@ -126,11 +124,8 @@ over_least (suc n) f g h = omega (arith, over_least n f g h, h n)
 
 of_var_most : {K : Type 0} (k : ℕ) (o : Option (Var K)) → of_var 0 (λ _. k) o ≤ k
 of_var_most k None = omega arith
-of_var_most k (Some r) = go r.present
-  where
-    go : (t : Bool) → cond t k 0 ≤ k
-    go true = omega arith
-    go false = omega arith
+of_var_most k (Some None) = omega arith
+of_var_most k (Some (Some r)) = omega arith
 
 map_row : {K T U : Type 0} (f : T → U) (g : Pair K → T) (v : ℕ) (ps : List (Pair K)) → map f (row g v ps) ≡ row (λ p. f (g p)) v ps
 map_row f g v [] = refl
@@ -153,48 +148,34 @@ placed_found vs (q ∷ qs) h a c p e =
 module _ {E S K : Type 0} (M : Model E S) (laws : Laws M) (means : K → S) (J : K → K → K)
     (exact : (a b : K) → Together M (means a) (means b) → means (J a b) ≡ M.join (means a) (means b)) where
   abbrev bests : List (Var K) → List K
-  bests vs = of_vars (λ _ r. best_var M means r) vs
+  bests vs = of_vars (λ _ r. best_of_two M means r) vs
 
   pub with_vars_run : (vs : List (Var K)) (k : K) → with_vars M means J k vs ≡ run J k (bests vs)
   with_vars_run [] k = refl
-  with_vars_run (r ∷ rs) k = ap (λ x. with_vars M means J x rs) (go r.present) ∙ with_vars_run rs (run J k (cond r.present (best_var M means r ∷ []) [])) ∙ after r.present
-    where
-      go : (t : Bool) → cond t (J k (best_var M means r)) k ≡ run J k (cond t (best_var M means r ∷ []) [])
-      go true = refl
-      go false = refl
-
-      after : (t : Bool) → run J (run J k (cond t (best_var M means r ∷ []) [])) (bests rs) ≡ run J k (cond t (best_var M means r ∷ bests rs) (bests rs))
-      after true = refl
-      after false = refl
+  with_vars_run (None ∷ rs) k = with_vars_run rs k
+  with_vars_run (Some r ∷ rs) k = with_vars_run rs (J k (best_of_two M means r))
 
   with_pairs_run : (ps : List (Pair K)) (k : K) → with_pairs M means J k ps ≡ run J k (map (best_pair M means) ps)
   with_pairs_run [] k = refl
   with_pairs_run (p ∷ ps) k = with_pairs_run ps (J k (best_pair M means p))
 
-  pub bests_means : (vs : List (Var K)) → map means (bests vs) ≡ of_vars (λ _ r. means (best_var M means r)) vs
+  pub bests_means : (vs : List (Var K)) → map means (bests vs) ≡ of_vars (λ _ r. means (best_of_two M means r)) vs
   bests_means [] = refl
-  bests_means (r ∷ rs) = go r.present ∙ ap (λ xs. cond r.present (means (best_var M means r) ∷ xs) xs) (bests_means rs)
-    where
-      go : (t : Bool) → map means (cond t (best_var M means r ∷ bests rs) (bests rs)) ≡ cond t (means (best_var M means r) ∷ map means (bests rs)) (map means (bests rs))
-      go true = refl
-      go false = refl
+  bests_means (None ∷ rs) = bests_means rs
+  bests_means (Some r ∷ rs) = ap (λ xs. means (best_of_two M means r) ∷ xs) (bests_means rs)
 
   map_map : (ps : List (Pair K)) → map means (map (best_pair M means) ps) ≡ map (λ p. means (best_pair M means p)) ps
   map_map [] = refl
   map_map (p ∷ ps) = ap (λ xs. means (best_pair M means p) ∷ xs) (map_map ps)
 
   best_var_is : (b : K) (vs : List (Var K)) (ps : List (Pair K)) (v : ℕ)
-      → of_var M.neutral (λ r. means (best_var M means r)) (slice_get vs v) ≡ better M (own M (contents means b vs ps) v false) (own M (contents means b vs ps) v true)
+      → of_var M.neutral (λ r. means (best_of_two M means r)) (slice_get vs v) ≡ better M (own M (contents means b vs ps) v false) (own M (contents means b vs ps) v true)
   best_var_is b vs ps v = go (slice_get vs v)
     where
-      there : (r : Var K) (t : Bool) → cond t (means (best_var M means r)) M.neutral
-          ≡ better M (one_score M (cond t (Some (var_scores means r)) None) false) (one_score M (cond t (Some (var_scores means r)) None) true)
-      there r true = chosen_means M means r.zero r.one
-      there r false = sym (better_neutral M means)
-
-      go : (o : Option (Var K)) → of_var M.neutral (λ r. means (best_var M means r)) o ≡ better M (one_score M (var_says means o) false) (one_score M (var_says means o) true)
+      go : (o : Option (Var K)) → of_var M.neutral (λ r. means (best_of_two M means r)) o ≡ better M (one_score M (var_says means o) false) (one_score M (var_says means o) true)
       go None = sym (better_neutral M means)
-      go (Some r) = there r r.present
+      go (Some None) = sym (better_neutral M means)
+      go (Some (Some r)) = chosen_means M means r.zero r.one
 
   best_pair_is : (o : Option (Pair K)) → of_pair M.neutral (λ p. means (best_pair M means p)) o ≡ best_four M (two_score M (option_map (pair_scores means) o))
   best_pair_is None = sym (ap₂ (better M) (better_neutral M means) (better_neutral M means) ∙ better_neutral M means)
@@ -210,7 +191,7 @@ module _ {E S K : Type 0} (M : Model E S) (laws : Laws M) (means : K → S) (J :
       let z = pair_count M means b vs ps arranged few in
       let ks = of_vars (λ v _. w v) vs in
       let ls = map (λ p. z p.low p.high) ps in
-      let xs = of_vars (λ _ r. means (best_var M means r)) vs in
+      let xs = of_vars (λ _ r. means (best_of_two M means r)) vs in
       let ys = map (λ p. means (best_pair M means p)) ps in
       let all : map means (bests vs ++ map (best_pair M means) ps) ≡ xs ++ ys
       = map-append means (bests vs) (map (best_pair M means) ps) ∙ ap₂ (λ p q. p ++ q) (bests_means vs) (map_map ps) in
@@ -222,7 +203,7 @@ module _ {E S K : Type 0} (M : Model E S) (laws : Laws M) (means : K → S) (J :
       ∙ over_same numbers_laws n _ (λ a. over numbers n (z a)) (λ a. over_same numbers_laws n _ (z a) (λ c. pair_weight M means b vs ps arranged few a c))) in
       let ofs : Ofs M (ks ++ ls) (xs ++ ys)
       = ofs_append M ks xs ls ys
-      (vars_of M laws vs w (λ _ r. means (best_var M means r)) (λ v r there here. chosen_of M means (w v) r.zero r.one (var_of M means b vs ps arranged few v r there here false) (var_of M means b vs ps arranged few v r there here true)))
+      (vars_of M laws vs w (λ _ r. means (best_of_two M means r)) (λ v r there. chosen_of M means (w v) r.zero r.one (var_of M means b vs ps arranged few v r there false) (var_of M means b vs ps arranged few v r there true)))
       (pairs_of_counts M laws (λ p. means (best_pair M means p)) (λ p. z p.low p.high) ps
       (All-weaker _ (λ p. Of M (z p.low p.high) (means (best_pair M means p)))
       (λ p at.
@@ -242,7 +223,7 @@ module _ {E S K : Type 0} (M : Model E S) (laws : Laws M) (means : K → S) (J :
       ∙ ap (M.join (means b))
       (joined_append M laws xs ys
       ∙ ap₂ M.join
-      (vars_joined M laws vs (λ _ r. means (best_var M means r)) ∙ over_same laws n _ _ (best_var_is b vs ps))
+      (vars_joined M laws vs (λ _ r. means (best_of_two M means r)) ∙ over_same laws n _ _ (best_var_is b vs ps))
       (pairs_joined M laws (λ p. means (best_pair M means p)) vs ps arranged.placed arranged.apart
       ∙ over_same laws n _ _ (λ a. over_same laws n _ _ (λ c. best_pair_is (found a c ps)))))
 
@@ -252,34 +233,40 @@ module _ {E S K : Type 0} (M : Model E S) (laws : Laws M) (means : K → S) (J :
   abbrev low_best : Bool → Pair K → K
   low_best u p = (chosen M means (at_four p.scores u false) (at_four p.scores u true)).score
 
-  abbrev arm_var : Var K → ℕ → List (Pair K) → Var K
-  arm_var r v ps = record { zero = run J r.zero (row (low_best false) v ps); one = run J r.one (row (low_best true) v ps); present = r.present }
+  abbrev arm_var : Two K → ℕ → List (Pair K) → Two K
+  arm_var r v ps = record { zero = run J r.zero (row (low_best false) v ps); one = run J r.one (row (low_best true) v ps) }
 
-  arms_at : (ps : List (Pair K)) (vs : List (Var K)) (v : ℕ) (r : Var K) → slice_get vs v ≡ Some r → slice_get (arms M means J vs ps) v ≡ Some (arm_var r v ps)
-  arms_at [] vs v r e = e
+  arms_at : (ps : List (Pair K)) (vs : List (Var K)) (v : ℕ) (r : Var K) → slice_get vs v ≡ Some r → slice_get (arms M means J vs ps) v ≡ Some (option_map (λ s. arm_var s v ps) r)
+  arms_at [] vs v r e = e ∙ ap Some (same r)
+    where
+      same : (r : Var K) → r ≡ option_map (λ s. arm_var s v []) r
+      same None = refl
+      same (Some s) = refl
   arms_at (p ∷ ps) vs v r e =
       ⊎_elim
       (λ (t : eqb v p.low ≡ true).
       let is = eqb-true v p.low t in
-      let r' = joined_var J r (low_best false p) (low_best true p) in
-      arms_at ps (with_arm M means J vs p) v r'
-      (subst (λ x. slice_get (with_arm M means J vs p) x ≡ Some r') (sym is) (join_at_same J vs p.low (low_best false p) (low_best true p) r (subst (λ x. slice_get vs x ≡ Some r) is e)))
-      ∙ sym (ap (λ b. Some (chained b)) t))
+      arms_at ps (with_arm M means J vs p) v (joined_var J r (low_bests M means p))
+      (ap (slice_get (with_arm M means J vs p)) is ∙ join_at_same J vs p.low (low_bests M means p) r (ap (slice_get vs) (sym is) ∙ e))
+      ∙ joined r ∙ sym (ap (λ b. Some (option_map (chained b) r)) t))
       (λ (t : eqb v p.low ≡ false).
-      arms_at ps (with_arm M means J vs p) v r (join_at_other J vs p.low (low_best false p) (low_best true p) v (eqb-false v p.low t) ∙ e)
-      ∙ sym (ap (λ b. Some (chained b)) t))
+      arms_at ps (with_arm M means J vs p) v r (join_at_other J vs p.low (low_bests M means p) v (eqb-false v p.low t) ∙ e)
+      ∙ sym (ap (λ b. Some (option_map (chained b) r)) t))
       (cases_Bool (eqb v p.low))
     where
-      chained : Bool → Var K
-      chained b = record {
-        zero = run J r.zero (cond b (low_best false p ∷ row (low_best false) v ps) (row (low_best false) v ps));
-        one = run J r.one (cond b (low_best true p ∷ row (low_best true) v ps) (row (low_best true) v ps));
-        present = r.present;
+      chained : Bool → Two K → Two K
+      chained b s = record {
+        zero = run J s.zero (cond b (low_best false p ∷ row (low_best false) v ps) (row (low_best false) v ps));
+        one = run J s.one (cond b (low_best true p ∷ row (low_best true) v ps) (row (low_best true) v ps));
       }
+
+      joined : (r : Var K) → Some (option_map (λ s. arm_var s v ps) (joined_var J r (low_bests M means p))) ≡ Some (option_map (chained true) r)
+      joined None = refl
+      joined (Some s) = refl
 
   arms_length : (ps : List (Pair K)) (vs : List (Var K)) → length (arms M means J vs ps) ≡ length vs
   arms_length [] vs = refl
-  arms_length (p ∷ ps) vs = arms_length ps (with_arm M means J vs p) ∙ join_at_length J vs p.low (low_best false p) (low_best true p)
+  arms_length (p ∷ ps) vs = arms_length ps (with_arm M means J vs p) ∙ join_at_length J vs p.low (low_bests M means p)
 
   module _ (b : K) (vs : List (Var K)) (ps : List (Pair K)) (arranged : Arranged vs ps) (few : Few M (contents means b vs ps)) where
     abbrev sheet : Sheet Bool S
@@ -318,29 +305,29 @@ module _ {E S K : Type 0} (M : Model E S) (laws : Laws M) (means : K → S) (J :
     low_best_is u (Some p) = chosen_means M means (at_four p.scores u false) (at_four p.scores u true)
 
     -- one variable and its pairs
-    module _ (v : ℕ) (r : Var K) (there : slice_get vs v ≡ Some r) (here : r.present ≡ true) where
+    module _ (v : ℕ) (r : Two K) (there : slice_get vs v ≡ Some (Some r)) where
       arm_room : arm_count v ≤ exact_entries
-      arm_room = omega (arith, over_one (length vs) v arm_count (nth_below vs v r there), counts_sum, all_entries M means b vs ps arranged few)
+      arm_room = omega (arith, over_one (length vs) v arm_count (nth_below vs v (Some r) there), counts_sum, all_entries M means b vs ps arranged few)
 
-      arm_joined : (u : Bool) → means (run J (score_at r u) (row (low_best u) v ps)) ≡ M.join (means (score_at r u)) (joined M (row (entry u) v ps))
+      arm_joined : (u : Bool) → means (run J (at_two r u) (row (low_best u) v ps)) ≡ M.join (means (at_two r u)) (joined M (row (entry u) v ps))
       arm_joined u =
-          run_exact M laws means J exact (row (low_best u) v ps) (score_at r u) (w v) (omega (arith, arm_room)) (var_of M means b vs ps arranged few v r there here u)
+          run_exact M laws means J exact (row (low_best u) v ps) (at_two r u) (w v) (omega (arith, arm_room)) (var_of M means b vs ps arranged few v r there u)
           (subst (Within M (exact_entries - w v)) (sym (map_row means (low_best u) v ps))
           (within_ofs M (row (λ p. z p.low p.high) v ps) (row (entry u) v ps) (exact_entries - w v) (row_ofs v u) (omega (arith, row_sum v, arm_room))))
-          ∙ ap (λ xs. M.join (means (score_at r u)) (joined M xs)) (map_row means (low_best u) v ps)
+          ∙ ap (λ xs. M.join (means (at_two r u)) (joined M xs)) (map_row means (low_best u) v ps)
 
-      arm_is : (u : Bool) → means (run J (score_at r u) (row (low_best u) v ps)) ≡ arm M sheet v u
+      arm_is : (u : Bool) → means (run J (at_two r u) (row (low_best u) v ps)) ≡ arm M sheet v u
       arm_is u =
           arm_joined u
           ∙ ap₂ M.join
-          (sym (ap (λ o. one_score M (var_says means o) u) there ∙ ap (λ t. one_score M (cond t (Some (var_scores means r)) None) u) here))
+          (sym (ap (λ o. one_score M (var_says means o) u) there))
           (row_joined M laws (entry u) vs v ps arranged.placed arranged.apart ∙ over_same laws (length vs) _ _ (λ c. low_best_is u (found v c ps)))
 
-      arm_of : (u : Bool) → Of M (arm_count v) (means (run J (score_at r u) (row (low_best u) v ps)))
+      arm_of : (u : Bool) → Of M (arm_count v) (means (run J (at_two r u) (row (low_best u) v ps)))
       arm_of u =
           subst (Of M (arm_count v)) (sym (arm_joined u))
-          (subst (λ n. Of M (w v + n) (M.join (means (score_at r u)) (joined M (row (entry u) v ps)))) (row_sum v)
-          (of_sum M laws (w v) _ _ _ (var_of M means b vs ps arranged few v r there here u) (ofs_joined M laws (row (λ p. z p.low p.high) v ps) (row (entry u) v ps) (row_ofs v u))))
+          (subst (λ n. Of M (w v + n) (M.join (means (at_two r u)) (joined M (row (entry u) v ps)))) (row_sum v)
+          (of_sum M laws (w v) _ _ _ (var_of M means b vs ps arranged few v r there u) (ofs_joined M laws (row (λ p. z p.low p.high) v ps) (row (entry u) v ps) (row_ofs v u))))
 
     -- a variable that does not remain gives nothing
     absent_arm : (v : ℕ) → var_says means (slice_get vs v) ≡ None → (u : Bool) → arm M sheet v u ≡ M.neutral
@@ -353,49 +340,43 @@ module _ {E S K : Type 0} (M : Model E S) (laws : Laws M) (means : K → S) (J :
         unfound c None f = refl
         unfound c (Some p) f =
             let q = placed_found vs ps arranged.placed v c p f in
-            let says : Some (var_scores means q.0) ≡ None = sym (ap (var_says means) q.1 ∙ cond-true q.0.present (Some (var_scores means q.0)) None q.2) ∙ e in
+            let says : Some (var_scores means q.0) ≡ None = sym (ap (var_says means) q.1) ∙ e in
             let o : ◌≡◌ {A = ℕ} 0 1 = cc in absurd (omega arith)
 
-    arm_best : (v : ℕ) → of_var M.neutral (λ r. means (best_var M means r)) (slice_get (arms M means J vs ps) v) ≡ better M (arm M sheet v false) (arm M sheet v true)
+    arm_best : (v : ℕ) → of_var M.neutral (λ r. means (best_of_two M means r)) (slice_get (arms M means J vs ps) v) ≡ better M (arm M sheet v false) (arm M sheet v true)
     arm_best v = go (slice_get vs v) refl
       where
         nothing : var_says means (slice_get vs v) ≡ None → M.neutral ≡ better M (arm M sheet v false) (arm M sheet v true)
         nothing e = sym (ap₂ (better M) (absent_arm v e false) (absent_arm v e true) ∙ better_neutral M means)
 
-        go : (o : Option (Var K)) → slice_get vs v ≡ o → of_var M.neutral (λ r. means (best_var M means r)) (slice_get (arms M means J vs ps) v) ≡ better M (arm M sheet v false) (arm M sheet v true)
+        go : (o : Option (Var K)) → slice_get vs v ≡ o → of_var M.neutral (λ r. means (best_of_two M means r)) (slice_get (arms M means J vs ps) v) ≡ better M (arm M sheet v false) (arm M sheet v true)
         go None e =
-            ap (of_var M.neutral (λ r. means (best_var M means r))) (slice_get_past (arms M means J vs ps) v (omega (arith, arms_length ps vs, nth_none vs v e)))
+            ap (of_var M.neutral (λ r. means (best_of_two M means r))) (slice_get_past (arms M means J vs ps) v (omega (arith, arms_length ps vs, nth_none vs v e)))
             ∙ nothing (ap (var_says means) e)
-        go (Some r) e =
-            ap (of_var M.neutral (λ r. means (best_var M means r))) (arms_at ps vs v r e)
-            ∙ ⊎_elim
-            (λ (t : r.present ≡ true).
-            cond-true r.present (means (best_var M means (arm_var r v ps))) M.neutral t
-            ∙ chosen_means M means _ _ ∙ ap₂ (better M) (arm_is v r e t false) (arm_is v r e t true))
-            (λ (t : r.present ≡ false).
-            cond-false r.present (means (best_var M means (arm_var r v ps))) M.neutral t
-            ∙ nothing (ap (var_says means) e ∙ cond-false r.present (Some (var_scores means r)) None t))
-            (cases_Bool r.present)
+        go (Some None) e = ap (of_var M.neutral (λ r. means (best_of_two M means r))) (arms_at ps vs v None e) ∙ nothing (ap (var_says means) e)
+        go (Some (Some r)) e =
+            ap (of_var M.neutral (λ r. means (best_of_two M means r))) (arms_at ps vs v (Some r) e)
+            ∙ chosen_means M means _ _ ∙ ap₂ (better M) (arm_is v r e false) (arm_is v r e true)
 
-    best_of : (v : ℕ) (a : Var K) → slice_get (arms M means J vs ps) v ≡ Some a → a.present ≡ true → Of M (arm_count v) (means (best_var M means a))
-    best_of v a there here = go (slice_get vs v) refl
+    best_of : (v : ℕ) (a : Two K) → slice_get (arms M means J vs ps) v ≡ Some (Some a) → Of M (arm_count v) (means (best_of_two M means a))
+    best_of v a there = go (slice_get vs v) refl
       where
-        go : (o : Option (Var K)) → slice_get vs v ≡ o → Of M (arm_count v) (means (best_var M means a))
+        go : (o : Option (Var K)) → slice_get vs v ≡ o → Of M (arm_count v) (means (best_of_two M means a))
         go None e =
-            let none : None ≡ Some a = sym (slice_get_past (arms M means J vs ps) v (omega (arith, arms_length ps vs, nth_none vs v e))) ∙ there in
-            let o : ◌≡◌ {A = ℕ} 0 1 = cc in absurd (omega arith)
-        go (Some r) e =
-            let same : Some (arm_var r v ps) ≡ Some a = sym (arms_at ps vs v r e) ∙ there in
+            let none : None ≡ Some (Some a) = sym (slice_get_past (arms M means J vs ps) v (omega (arith, arms_length ps vs, nth_none vs v e))) ∙ there in
+            absurd cc
+        go (Some None) e = let none : Some None ≡ Some (Some a) = sym (arms_at ps vs v None e) ∙ there in absurd cc
+        go (Some (Some r)) e =
+            let same : Some (Some (arm_var r v ps)) ≡ Some (Some a) = sym (arms_at ps vs v (Some r) e) ∙ there in
             let is : arm_var r v ps ≡ a = cc in
-            let present : r.present ≡ true = ap (λ q. q.present) is ∙ here in
-            subst (λ q. Of M (arm_count v) (means (best_var M means q))) is
-            (chosen_of M means (arm_count v) _ _ (arm_of v r e present false) (arm_of v r e present true))
+            subst (λ q. Of M (arm_count v) (means (best_of_two M means q))) is
+            (chosen_of M means (arm_count v) _ _ (arm_of v r e false) (arm_of v r e true))
 
     pub star_replies : means (with_vars M means J b (arms M means J vs ps)) ≡ star_score M sheet
     star_replies =
         let A = arms M means J vs ps in
         let ks = of_vars (λ v _. arm_count v) A in
-        let xs = of_vars (λ _ r. means (best_var M means r)) A in
+        let xs = of_vars (λ _ r. means (best_of_two M means r)) A in
         let long : length A ≡ length vs = arms_length ps vs in
         let most : joined numbers ks ≤ over numbers (length A) arm_count
         = subst (λ n. n ≤ over numbers (length A) arm_count) (sym (vars_joined numbers numbers_laws A (λ v _. arm_count v)))
@@ -405,9 +386,9 @@ module _ {E S K : Type 0} (M : Model E S) (laws : Laws M) (means : K → S) (J :
         ap means (with_vars_run A b)
         ∙ run_exact M laws means J exact (bests A) b few.counts.base (omega (arith, room)) few.counted.base_of
         (subst (Within M (exact_entries - few.counts.base)) (sym (bests_means A))
-        (within_ofs M ks xs (exact_entries - few.counts.base) (vars_of M laws A arm_count (λ _ r. means (best_var M means r)) best_of) (omega (arith, most_all, counts_sum, room))))
+        (within_ofs M ks xs (exact_entries - few.counts.base) (vars_of M laws A arm_count (λ _ r. means (best_of_two M means r)) best_of) (omega (arith, most_all, counts_sum, room))))
         ∙ ap (λ t. M.join (means b) (joined M t)) (bests_means A)
         ∙ ap (M.join (means b))
-        (vars_joined M laws A (λ _ r. means (best_var M means r))
-        ∙ ap (λ n. over M n (λ v. of_var M.neutral (λ r. means (best_var M means r)) (slice_get A v))) long
+        (vars_joined M laws A (λ _ r. means (best_of_two M means r))
+        ∙ ap (λ n. over M n (λ v. of_var M.neutral (λ r. means (best_of_two M means r)) (slice_get A v))) long
         ∙ over_same laws (length vs) _ _ arm_best)

@@ -5,7 +5,7 @@ use Rattle.std.specs.List.{AllByRecursion, slice_get}
 use Rattle.std.proofs.lemmas.Bool.{both_ways, cases_Bool, cond-false, and_parts, eqb-true}
 use Rattle.steps.proofs.Sheets.{some_mapped}
 use Rattle.records.specs.declared.pairs.Pair.{Pair}
-use Rattle.sheets.specs.declared.variables.Var.{Var}
+use Rattle.sheets.specs.Variables.{Var}
 use Rattle.worksheet.specs.Claims.{ContentsSound}
 use Rattle.records.specs.Pairs.{is_pair}
 use Rattle.worksheet.specs.Records.{found, var_says, var_scores, pair_scores, Present, Placed}
@@ -26,7 +26,7 @@ module _ {K S : Type 0} (means : K → S) (b : K) (vs : List (Var K)) where
       (cases_Bool (is_pair x z p))
 
   present_remains : (v : ℕ) → Present vs v → is_some (var_says means (slice_get vs v)) ≡ true
-  present_remains v h = ap (λ o. is_some (var_says means o)) h.1 ∙ ap (λ t. is_some (cond t (Some (var_scores means h.0)) None)) h.2
+  present_remains v h = ap (λ o. is_some (var_says means o)) h.1
 
   remains_below : (v : ℕ) → is_some (var_says means (slice_get vs v)) ≡ true → v < length vs
   remains_below v e = go (slice_get vs v) refl e

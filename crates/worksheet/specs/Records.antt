@@ -4,12 +4,12 @@ use Rattle.std.specs.Option.{option_map}
 use Rattle.std.specs.List.{AllByRecursion, slice_get}
 use Rattle.steps.specs.Sheet.{Sheet}
 use Rattle.score.specs.declared.values.Four.{Four}
-use Rattle.score.specs.Values.{at_four}
+use Rattle.score.specs.declared.values.Two.{Two}
+use Rattle.score.specs.Values.{at_two, at_four}
 use Rattle.records.specs.declared.pairs.Link.{Link}
 use Rattle.records.specs.declared.pairs.Pair.{Pair}
 use Rattle.records.specs.Pairs.{is_pair}
-use Rattle.sheets.specs.declared.variables.Var.{Var}
-use Rattle.sheets.specs.Variables.{score_at}
+use Rattle.sheets.specs.Variables.{Var}
 
 -- the first record of the pair of a and b
 abbrev pub found : {K : Type 0} → ℕ → ℕ → List (Pair K) → Option (Pair K)
@@ -18,8 +18,8 @@ found a b (p ∷ ps) = cond (is_pair a b p) (Some p) (found a b ps)
 
 -- means: the score that a held one stands for
 module _ {K S : Type 0} (means : K → S) where
-  abbrev pub var_scores : Var K → Bool → S
-  var_scores r u = means (score_at r u)
+  abbrev pub var_scores : Two K → Bool → S
+  var_scores r u = means (at_two r u)
 
   abbrev pub four_scores : Four K → Bool → Bool → S
   four_scores f u w = means (at_four f u w)
@@ -30,10 +30,10 @@ module _ {K S : Type 0} (means : K → S) where
   abbrev pub link_scores : Link K → Bool → Bool → S
   link_scores l = four_scores l.scores
 
-  -- a record of a variable that does not remain says nothing
+  -- a variable that does not remain says nothing
   abbrev pub var_says : Option (Var K) → Option (Bool → S)
   var_says None = None
-  var_says (Some r) = cond r.present (Some (var_scores r)) None
+  var_says (Some r) = option_map var_scores r
 
   abbrev pub contents : K → List (Var K) → List (Pair K) → Sheet Bool S
   contents base vs ps = record {
@@ -46,7 +46,7 @@ module _ {K S : Type 0} (means : K → S) where
 -- The order that is kept among the records ---------------------------------------------------------------------------------------------
 
 abbrev pub Present : {K : Type 0} → List (Var K) → ℕ → Type 0
-Present {K} vs v = (r : Var K) × (slice_get vs v ≡ Some r) × (r.present ≡ true)
+Present {K} vs v = (r : Two K) × (slice_get vs v ≡ Some (Some r))
 
 pub record Placed {K : Type 0} (vs : List (Var K)) (p : Pair K) : Type 0 where
   pub lower_first : p.low < p.high

@@ -7,15 +7,15 @@ ghost use Rattle.worksheet.specs.Does.{AloneDoes, OneDoes, TwoDoes, SetDoes};
 ghost use Rattle.worksheet.specs.Left.{AloneLeft, OneLeft, TwoLeft, SetLeft, WhereNone};
 ghost use Rattle.worksheet.specs.Noting.{alone_note, one_note, two_note, set_note};
 
-use score::values::Four;
 use notes::removal::{Removal, Way};
 use partners::links::{ByOne, ByTwo, alone_at, one_at, present_at, two_at};
-use records::access::{first, write};
+use records::access::first;
 use records::pairs::Pair;
 use score::choice::Choice;
 use score::interface::Kind;
+use score::values::{Four, Two};
 use sheets::changing::{
-    best_with_one, best_with_two, better, drop_pairs, hand_over, join_at, post_pair, scores_of,
+    best_with_one, best_with_two, better, drop_pairs, hand_over, join_at, leave, post_pair, scores_of,
 };
 use sheets::variables::Var;
 
@@ -23,7 +23,7 @@ use sheets::variables::Var;
 fn bank_number(value: bool) -> u8
     ensures { result ≡ bank_number value }
 {
-    if value { 1 } else { 0 }
+    u8::from(value)
 }
 
 fn alone_note<K: Copy>(y: u32, best: Choice<K>) -> Removal
@@ -89,9 +89,9 @@ pub fn remove_alone<K: Kind>(
     ensures refused { WhereNone result ((base.new ≡ base.old) × (vars.new ≡ vars.old)) }
 {
     let var = alone_at(vars, pairs, y)?;
-    let best = better(var.zero, var.one);
+    let best = better(var);
     *base = base.join(best.score);
-    write(vars, y as usize, var.gone());
+    leave(vars, y);
     Some(alone_note(y, best))
 }
 
@@ -112,8 +112,12 @@ pub fn remove_by_one<K: Kind>(
     let ByOne { var, link } = one_at(vars, first(pairs, before), y)?;
     let at0 = best_with_one(var, link, false);
     let at1 = best_with_one(var, link, true);
-    write(vars, y as usize, var.gone());
-    join_at(vars, link.partner as usize, at0.score, at1.score);
+    leave(vars, y);
+    let scores = Two {
+        zero: at0.score,
+        one: at1.score,
+    };
+    join_at(vars, link.partner, scores);
     *used = drop_pairs(pairs, before, y);
     Some(one_note(y, link.partner, at0, at1))
 }
@@ -134,7 +138,7 @@ pub fn remove_by_two<K: Kind>(
     let before = *used;
     let ByTwo { var, low, high } = two_at(vars, first(pairs, before), y)?;
     let best = best_with_two(var, low, high);
-    write(vars, y as usize, var.gone());
+    leave(vars, y);
     let rest = drop_pairs(pairs, before, y);
     *used = post_pair(pairs, rest, low.partner, high.partner, scores_of(best));
     Some(two_note(y, low.partner, high.partner, best))
@@ -157,7 +161,7 @@ pub fn set_variable<K: Kind>(
     let before = *used;
     let var = present_at(vars, y)?;
     *base = base.join(var.at(value));
-    write(vars, y as usize, var.gone());
+    leave(vars, y);
     hand_over(vars, first(pairs, before), y, value);
     *used = drop_pairs(pairs, before, y);
     Some(set_note(y, value))

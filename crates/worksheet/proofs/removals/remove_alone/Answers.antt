@@ -16,7 +16,7 @@ returns-in_err-var g c = rw c.from_residual.ensures
 pub returns : goal.returns
 returns g c =
     let base_is = c.join.ensures ∙ ap (λ b. g.K.Kind.held c.args.base.now b.score) c.better-best.ensures in
-    let vars_are = c.write.ensures ∙ ap (set c.args.vars.now c.args.y) c.gone.ensures in
+    let vars_are = c.leave.ensures in
     let note_is = c.alone_note.ensures ∙ ap (alone_note c.args.y) c.better-best.ensures in
     record {
       left = alone_done g.K.Kind.model g.met.K.Kind.lawful g.K.Kind.means g.K.Kind.held g.met.K.Kind.exact

@@ -33,7 +33,7 @@ returns g c =
     let z = by.high.partner in
     let y = c.args.y in
     let best = c.best_with_two-best.ensures in
-    let vars_are = c.write.ensures ∙ ap (set c.args.vars.now y) c.gone.ensures in
+    let vars_are = c.leave.ensures in
     let pairs_are = ap₂ take c.post_pair.ensures.used c.post_pair.ensures.table
     ∙ post_in_use J x z c.scores_of.result c.drop_pairs-rest.new.pairs c.drop_pairs-rest.result room.0
     ∙ ap (post J x z c.scores_of.result) c.drop_pairs-rest.ensures.kept in

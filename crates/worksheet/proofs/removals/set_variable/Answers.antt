@@ -19,10 +19,9 @@ pub returns : goal.returns
 returns g c =
     let J = g.K.Kind.held in
     let y = c.args.y in
-    let gone_at : c.write.new.items ≡ set c.args.vars.now y c.gone.result = c.write.ensures in
     let base_is = c.join.ensures ∙ ap (J c.args.base.now) c.at.ensures in
     let vars_are = c.hand_over.ensures
-    ∙ ap (λ vs. handed J y c.args.value vs c.first.result.now) (gone_at ∙ ap (set c.args.vars.now y) c.gone.ensures)
+    ∙ ap (λ vs. handed J y c.args.value vs c.first.result.now) c.leave.ensures
     ∙ ap (handed J y c.args.value _) c.first.ensures in
     record {
       left = set_done g.K.Kind.model g.met.K.Kind.lawful g.K.Kind.means J g.met.K.Kind.exact
