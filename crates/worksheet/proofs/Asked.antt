@@ -63,7 +63,7 @@ module _ {K : Type 0} where
     where
       go : (o : Option (Two K)) → present_at vs y ≡ o → (elim o [ None ↦ None | Some r ↦ f (gather y Alone ps) r ]) ≡ Some x
           → (r : Two K) × (slice_get vs y ≡ Some (Some r)) × (f (fold_links Alone (links y ps)) r ≡ Some x)
-      go None is e = let z : ◌≡◌ {A = ℕ} 0 1 = cc in absurd (omega arith)
+      go None is e = absurd cc
       go (Some r) is e = (r, present_is vs y r is, ap (λ k. f k r) (sym (gather_links y ps Alone)) ∙ e)
 
   -- no answer: the variable does not remain, or its links do not answer
@@ -84,20 +84,20 @@ module _ {K : Type 0} where
     where
       go : (ls : List (Link K)) (q : Two K) → slice_get vs y ≡ Some (Some q) → with_no_link (fold_links Alone ls) q ≡ Some r → (slice_get vs y ≡ Some (Some r)) × (ls ≡ [])
       go [] q there e = (there ∙ ap Some e, refl)
-      go (a ∷ []) q there e = let z : ◌≡◌ {A = ℕ} 0 1 = cc in absurd (omega arith)
+      go (a ∷ []) q there e = absurd cc
       go (a ∷ b ∷ []) q there e = two (ltb b.partner a.partner) e
         where
           two : (t : Bool) → with_no_link (cond t (Pairs b a) (Pairs a b)) q ≡ Some r → (slice_get vs y ≡ Some (Some r)) × (a ∷ b ∷ [] ≡ [])
-          two true e = let z : ◌≡◌ {A = ℕ} 0 1 = cc in absurd (omega arith)
-          two false e = let z : ◌≡◌ {A = ℕ} 0 1 = cc in absurd (omega arith)
-      go (a ∷ b ∷ d ∷ ls) q there e = let m : None ≡ Some r = sym (ap (λ k. with_no_link k q) (three_more a b d ls)) ∙ e in let z : ◌≡◌ {A = ℕ} 0 1 = cc in absurd (omega arith)
+          two true e = absurd cc
+          two false e = absurd cc
+      go (a ∷ b ∷ d ∷ ls) q there e = let m : None ≡ Some r = sym (ap (λ k. with_no_link k q) (three_more a b d ls)) ∙ e in absurd cc
 
   pub alone_unasked : {S : Type 0} (means : K → S) (vs : List (Var K)) (ps : List (Pair K)) (y : ℕ) → alone_at vs ps y ≡ None
       → is_some (var_says means (slice_get vs y)) ≡ true → length (links y ps) ≡ 0 → ⊥
   alone_unasked means vs ps y e there none = let q = unasked means with_no_link vs ps y e there in go (links y ps) q.0 q.1 none
     where
       go : (ls : List (Link K)) (r : Two K) → with_no_link (fold_links Alone ls) r ≡ None → length ls ≡ 0 → ⊥
-      go [] r e h = let z : ◌≡◌ {A = ℕ} 0 1 = cc in omega arith
+      go [] r e h = cc
       go (a ∷ ls) r e h = omega (arith, h)
 
   pub one_asked : (vs : List (Var K)) (ps : List (Pair K)) (y : ℕ) (x : ByOne K) → one_at vs ps y ≡ Some x
@@ -107,16 +107,16 @@ module _ {K : Type 0} where
       go (links y ps) q.0 q.1 q.2
     where
       go : (ls : List (Link K)) (q : Two K) → slice_get vs y ≡ Some (Some q) → with_one_link (fold_links Alone ls) q ≡ Some x → (slice_get vs y ≡ Some (Some x.var)) × (ls ≡ x.link ∷ [])
-      go [] q there e = let z : ◌≡◌ {A = ℕ} 0 1 = cc in absurd (omega arith)
+      go [] q there e = absurd cc
       go (a ∷ []) q there e =
           let is : record { var = q; link = a } ≡ x = cc in
           (there ∙ ap (λ b. Some (Some b.var)) is, ap (λ b. b.link ∷ []) is)
       go (a ∷ b ∷ []) q there e = two (ltb b.partner a.partner) e
         where
           two : (t : Bool) → with_one_link (cond t (Pairs b a) (Pairs a b)) q ≡ Some x → (slice_get vs y ≡ Some (Some x.var)) × (a ∷ b ∷ [] ≡ x.link ∷ [])
-          two true e = let z : ◌≡◌ {A = ℕ} 0 1 = cc in absurd (omega arith)
-          two false e = let z : ◌≡◌ {A = ℕ} 0 1 = cc in absurd (omega arith)
-      go (a ∷ b ∷ d ∷ ls) q there e = let m : None ≡ Some x = sym (ap (λ k. with_one_link k q) (three_more a b d ls)) ∙ e in let z : ◌≡◌ {A = ℕ} 0 1 = cc in absurd (omega arith)
+          two true e = absurd cc
+          two false e = absurd cc
+      go (a ∷ b ∷ d ∷ ls) q there e = let m : None ≡ Some x = sym (ap (λ k. with_one_link k q) (three_more a b d ls)) ∙ e in absurd cc
 
   pub one_unasked : {S : Type 0} (means : K → S) (vs : List (Var K)) (ps : List (Pair K)) (y : ℕ) → one_at vs ps y ≡ None
       → is_some (var_says means (slice_get vs y)) ≡ true → length (links y ps) ≡ 1 → ⊥
@@ -124,7 +124,7 @@ module _ {K : Type 0} where
     where
       go : (ls : List (Link K)) (r : Two K) → with_one_link (fold_links Alone ls) r ≡ None → length ls ≡ 1 → ⊥
       go [] r e h = omega (arith, h)
-      go (a ∷ []) r e h = let z : ◌≡◌ {A = ℕ} 0 1 = cc in omega arith
+      go (a ∷ []) r e h = cc
       go (a ∷ b ∷ ls) r e h = omega (arith, h)
 
   pub two_asked : (vs : List (Var K)) (ps : List (Pair K)) (y : ℕ) (x : ByTwo K) → two_at vs ps y ≡ Some x
@@ -135,8 +135,8 @@ module _ {K : Type 0} where
     where
       go : (ls : List (Link K)) (q : Two K) → slice_get vs y ≡ Some (Some q) → with_two_links (fold_links Alone ls) q ≡ Some x
           → (slice_get vs y ≡ Some (Some x.var)) × (x.low.partner ≤ x.high.partner) × ((ls ≡ x.low ∷ x.high ∷ []) ⊎ (ls ≡ x.high ∷ x.low ∷ []))
-      go [] q there e = let z : ◌≡◌ {A = ℕ} 0 1 = cc in absurd (omega arith)
-      go (a ∷ []) q there e = let z : ◌≡◌ {A = ℕ} 0 1 = cc in absurd (omega arith)
+      go [] q there e = absurd cc
+      go (a ∷ []) q there e = absurd cc
       go (a ∷ b ∷ []) q there e = two (ltb b.partner a.partner) refl e
         where
           two : (t : Bool) → ltb b.partner a.partner ≡ t → with_two_links (cond t (Pairs b a) (Pairs a b)) q ≡ Some x
@@ -147,7 +147,7 @@ module _ {K : Type 0} where
           two false t e =
               let is : record { var = q; low = a; high = b } ≡ x = cc in
               (there ∙ ap (λ d. Some (Some d.var)) is, subst (λ d. d.low.partner ≤ d.high.partner) is (ltb-false b.partner a.partner t), inl (ap (λ d. d.low ∷ d.high ∷ []) is))
-      go (a ∷ b ∷ d ∷ ls) q there e = let m : None ≡ Some x = sym (ap (λ k. with_two_links k q) (three_more a b d ls)) ∙ e in let z : ◌≡◌ {A = ℕ} 0 1 = cc in absurd (omega arith)
+      go (a ∷ b ∷ d ∷ ls) q there e = let m : None ≡ Some x = sym (ap (λ k. with_two_links k q) (three_more a b d ls)) ∙ e in absurd cc
 
   pub two_unasked : {S : Type 0} (means : K → S) (vs : List (Var K)) (ps : List (Pair K)) (y : ℕ) → two_at vs ps y ≡ None
       → is_some (var_says means (slice_get vs y)) ≡ true → length (links y ps) ≡ 2 → ⊥
@@ -159,6 +159,6 @@ module _ {K : Type 0} where
       go (a ∷ b ∷ []) r e h = both (ltb b.partner a.partner) e
         where
           both : (t : Bool) → with_two_links (cond t (Pairs b a) (Pairs a b)) r ≡ None → ⊥
-          both true e = let z : ◌≡◌ {A = ℕ} 0 1 = cc in omega arith
-          both false e = let z : ◌≡◌ {A = ℕ} 0 1 = cc in omega arith
+          both true e = cc
+          both false e = cc
       go (a ∷ b ∷ d ∷ ls) r e h = omega (arith, h)

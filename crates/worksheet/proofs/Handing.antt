@@ -56,7 +56,7 @@ module _ {K : Type 0} (J : K → K → K) (c : Bool) where
       (cases_eq v l.partner)
     where
       some_none : (l : Link K) → Some l ≡ None → ⊥
-      some_none l e = let z : ◌≡◌ {A = ℕ} 0 1 = cc in omega arith
+      some_none l e = cc
 
 module _ {E S K : Type 0} (M : Model E S) (laws : Laws M) (means : K → S) (J : K → K → K) (c : Bool) where
   -- what goes to v
@@ -95,7 +95,7 @@ module _ {E S K : Type 0} (M : Model E S) (laws : Laws M) (means : K → S) (J :
       (cases_eq v l.partner)
     where
       none_some : (m : Link K) (o : Option (Link K)) → o ≡ None → o ≡ Some m → ⊥
-      none_some m o e f = let z : ◌≡◌ {A = ℕ} 0 1 = cc in omega arith
+      none_some m o e f = cc
 
       later : ExactHand (hand J c vs (Some l)) ls
       later x m r at there u =

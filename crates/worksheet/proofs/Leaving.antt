@@ -68,8 +68,8 @@ module _ {K : Type 0} (y : ℕ) where
   kept_all [] e = refl
   kept_all (p ∷ ps) e =
       link_cases y p (λ o. front o (links y ps) ≡ [] → kept y (p ∷ ps) ≡ p ∷ ps)
-      (λ _ h. let z : ◌≡◌ {A = ℕ} 0 1 = cc in absurd (omega arith))
-      (λ _ _ h. let z : ◌≡◌ {A = ℕ} 0 1 = cc in absurd (omega arith))
+      (λ _ h. absurd cc)
+      (λ _ _ h. absurd cc)
       (λ d f h. kept_yes p ps (or_from (eqb p.low y) (eqb p.high y) (ne_eqb p.low y d) (ne_eqb p.high y f)) ∙ ap (λ qs. p ∷ qs) (kept_all ps h))
       e
 

@@ -162,7 +162,7 @@ module _ {K : Type 0} (J : K → K → K) (x z : ℕ) (f : Four K) where
       (cases_Bool (is_pair x z p))
     where
       apart : {t : Bool} → t ≡ false → t ≡ true → ⊥
-      apart e h = let z : false ≡ true = sym e ∙ h in let o : ◌≡◌ {A = ℕ} 0 1 = ap (λ b. cond b 1 0) z in omega arith
+      apart e h = let z : false ≡ true = sym e ∙ h in cc
 
 module _ {E S K : Type 0} (M : Model E S) (means : K → S) (J : K → K → K) (x z : ℕ) (f : Four K) (g : Bool → Bool → S) (ps : List (Pair K))
     (fresh : (u w : Bool) → means (at_four f u w) ≡ g u w)
@@ -196,4 +196,4 @@ module _ {E S K : Type 0} (M : Model E S) (means : K → S) (J : K → K → K) 
           (cases_Bool (eqb a x && eqb b z))
         where
           off : {t : Bool} → t ≡ false → t ≡ true → ⊥
-          off e h = let z : false ≡ true = sym e ∙ h in let o : ◌≡◌ {A = ℕ} 0 1 = ap (λ b. cond b 1 0) z in omega arith
+          off e h = let z : false ≡ true = sym e ∙ h in cc

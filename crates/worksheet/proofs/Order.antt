@@ -18,7 +18,7 @@ all_among P (y ∷ ys) x h m = ⊎_elim (λ (e : x ≡ y). subst P (sym e) h.0) 
 
 module _ {K : Type 0} where
   found_among : (ps : List (Pair K)) (a b : ℕ) (p : Pair K) → found a b ps ≡ Some p → Among p ps
-  found_among [] a b p e = let z : ◌≡◌ {A = ℕ} 0 1 = cc in absurd (omega arith)
+  found_among [] a b p e = absurd cc
   found_among (q ∷ qs) a b p e =
       ⊎_elim
       (λ (t : is_pair a b q ≡ true).

@@ -140,7 +140,7 @@ module _ {K S : Type 0} (means : K → S) where
 
 mapped_none : {A B : Type 0} (f : A → B) (o : Option A) → option_map f o ≡ None → o ≡ None
 mapped_none f None e = refl
-mapped_none f (Some x) e = let z : ◌≡◌ {A = ℕ} 0 1 = cc in absurd (omega arith)
+mapped_none f (Some x) e = absurd cc
 
 -- the links of y have partners of their own, below n
 abbrev pub Distinct : {K : Type 0} → ℕ → List (Link K) → Type 0
@@ -173,7 +173,7 @@ module _ {K : Type 0} (vs : List (Var K)) where
 
 -- a partner's record is there
 pub link_present : {K : Type 0} (vs : List (Var K)) (y : ℕ) (ps : List (Pair K)) → AllByRecursion (Placed vs) ps → (x : ℕ) (l : Link K) → first_link x (links y ps) ≡ Some l → Present vs x
-link_present vs y [] h x l e = let z : ◌≡◌ {A = ℕ} 0 1 = cc in absurd (omega arith)
+link_present vs y [] h x l e = absurd cc
 link_present {K} vs y (p ∷ ps) h x l e =
     let rest : first_link x (links y ps) ≡ Some l → Present vs x = link_present vs y ps h.1 x l in
     let one : (m : Link K) → Present vs m.partner → first_link x (m ∷ links y ps) ≡ Some l → Present vs x

@@ -25,10 +25,10 @@ module _ {K : Type 0} (x z : ℕ) where
       where
         none_suc : (o : Option ℕ) → None ≡ option_map suc o → None ≡ o
         none_suc None e = refl
-        none_suc (Some k) e = let z : ◌≡◌ {A = ℕ} 0 1 = cc in absurd (omega arith)
+        none_suc (Some k) e = absurd cc
 
     pub post_at : (ps : List (Pair K)) (i : ℕ) → place x z ps ≡ Some i → post J x z f ps ≡ join_pair_at J ps i f
-    post_at [] i e = let z : ◌≡◌ {A = ℕ} 0 1 = cc in absurd (omega arith)
+    post_at [] i e = absurd cc
     post_at (p ∷ ps) i e =
         ⊎_elim
         (λ (t : is_pair x z p ≡ true).

@@ -88,11 +88,11 @@ module _ {K : Type 0} where
   two_distinct n l m ls d (inl e) same = both_some m (sym (first_here l.partner m [] same) ∙ (subst (Distinct n) e d).1)
     where
       both_some : (m : Link K) → Some m ≡ None → ⊥
-      both_some m e = let z : ◌≡◌ {A = ℕ} 0 1 = cc in omega arith
+      both_some m e = cc
   two_distinct n l m ls d (inr e) same = both_some l (sym (first_here m.partner l [] (sym same)) ∙ (subst (Distinct n) e d).1)
     where
       both_some : (m : Link K) → Some m ≡ None → ⊥
-      both_some m e = let z : ◌≡◌ {A = ℕ} 0 1 = cc in omega arith
+      both_some m e = cc
 
   two_first_low : (l m : Link K) (ls : List (Link K)) → (l.partner ≡ m.partner → ⊥) → (ls ≡ l ∷ m ∷ []) ⊎ (ls ≡ m ∷ l ∷ []) → first_link l.partner ls ≡ Some l
   two_first_low l m ls d (inl e) = ap (first_link l.partner) e ∙ first_here l.partner l (m ∷ []) refl

@@ -136,7 +136,7 @@ map_row f g v (p ∷ ps) = go (eqb v p.low) ∙ ap (λ xs. cond (eqb v p.low) (f
     go false = refl
 
 placed_found : {K : Type 0} (vs : List (Var K)) (ps : List (Pair K)) → AllByRecursion (Placed vs) ps → (a c : ℕ) (p : Pair K) → found a c ps ≡ Some p → Present vs a
-placed_found vs [] h a c p e = let z : ◌≡◌ {A = ℕ} 0 1 = cc in absurd (omega arith)
+placed_found vs [] h a c p e = absurd cc
 placed_found vs (q ∷ qs) h a c p e =
     ⊎_elim
     (λ (t : is_pair a c q ≡ true). subst (Present vs) (sym (eqb-true a q.low (and_parts (eqb a q.low) (eqb c q.high) t).0)) h.0.low_present)
@@ -341,7 +341,7 @@ module _ {E S K : Type 0} (M : Model E S) (laws : Laws M) (means : K → S) (J :
         unfound c (Some p) f =
             let q = placed_found vs ps arranged.placed v c p f in
             let says : Some (var_scores means q.0) ≡ None = sym (ap (var_says means) q.1) ∙ e in
-            let o : ◌≡◌ {A = ℕ} 0 1 = cc in absurd (omega arith)
+            absurd cc
 
     arm_best : (v : ℕ) → of_var M.neutral (λ r. means (best_of_two M means r)) (slice_get (arms M means J vs ps) v) ≡ better M (arm M sheet v false) (arm M sheet v true)
     arm_best v = go (slice_get vs v) refl

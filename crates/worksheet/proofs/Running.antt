@@ -102,7 +102,7 @@ of_pair n g (Some p) = g p
 
 module _ {K : Type 0} where
   pub found_keys : (ps : List (Pair K)) (a b : ℕ) (p : Pair K) → found a b ps ≡ Some p → (a ≡ p.low) × (b ≡ p.high)
-  found_keys [] a b p e = let z : ◌≡◌ {A = ℕ} 0 1 = cc in absurd (omega arith)
+  found_keys [] a b p e = absurd cc
   found_keys (q ∷ qs) a b p e =
       ⊎_elim
       (λ (t : is_pair a b q ≡ true).
@@ -125,7 +125,7 @@ module _ {K : Type 0} where
             (λ (t : is_pair q.low q.high p ≡ true).
             let k = and_parts (eqb q.low p.low) (eqb q.high p.high) t in
             let z : None ≡ Some q = sym a.0 ∙ ap (λ y. found y p.high ps) (sym (eqb-true q.low p.low k.0)) ∙ ap (λ y. found q.low y ps) (sym (eqb-true q.high p.high k.1)) ∙ h.0 in
-            let o : ◌≡◌ {A = ℕ} 0 1 = cc in absurd (omega arith))
+            absurd cc)
             (λ (t : is_pair q.low q.high p ≡ false). cond-false (is_pair q.low q.high p) (Some p) (found q.low q.high ps) t ∙ h.0)
             (cases_Bool (is_pair q.low q.high p)),
         on qs h.1,

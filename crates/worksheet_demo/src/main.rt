@@ -5,7 +5,6 @@
 ghost use Rattle.std.specs.Prelude.{Some};
 ghost use Rattle.std.proofs.Common.{rules};
 
-use score::values::Four;
 use notes::removal::{Removal, Way};
 use notes::splits::Splits;
 use notes::stack::Notes;
@@ -14,6 +13,7 @@ use score::interface::Kind;
 use score::margins::{Slack, Worst};
 use score::tiers::{Tiered, Weighted};
 use score::totals::{Access, Total};
+use score::values::{Four, Two};
 use sheets::variables::Var;
 use std::fmt::Display;
 use worksheet::bounds::largest::Largest;
@@ -46,11 +46,7 @@ impl Bound<Worst> for BaseAlone {
 }
 
 fn var<K: Kind>(zero: K, one: K) -> Var<K> {
-    Var {
-        zero,
-        one,
-        present: true,
-    }
+    Some(Two { zero, one })
 }
 
 // Two scores for the values that agree and for those that differ.
@@ -171,7 +167,7 @@ fn show_layout(rt: HostRuntime, notes: &Notes) -> anyhow::Result<()> {
 fn note(rt: HostRuntime, notes: &mut Notes, removal: Option<Removal>) -> anyhow::Result<()> {
     show_removal(rt, removal)?;
     if let Some(removal) = removal {
-        notes.push(removal);
+        notes.push(removal)?;
     }
     Ok(())
 }
@@ -233,8 +229,8 @@ fn show_top(rt: HostRuntime, splits: &Splits) -> anyhow::Result<()> {
 fn work_splits(rt: HostRuntime) -> anyhow::Result<()> {
     println!(rt; "splits")?;
     let mut splits = Splits::new();
-    splits.push(0, 0);
-    splits.push(3, 2);
+    splits.push(0, 0)?;
+    splits.push(3, 2)?;
     show_top(rt, &splits)?;
     splits.begin_one();
     show_top(rt, &splits)?;
@@ -245,78 +241,65 @@ fn work_splits(rt: HostRuntime) -> anyhow::Result<()> {
 }
 
 // Four variables in a ring with one diagonal, and two scores.
-macro_rules! work_ring {
-    ($rt:expr, $low:expr, $high:expr, $best:expr) => {{
-        let low = $low;
-        let high = $high;
-        let mut vars = [var(high, low), var(low, high), var(low, low), var(high, low)];
-        let mut pairs = [
-            pair(0, 1, low, high),
-            pair(1, 2, low, high),
-            pair(2, 3, low, high),
-            both_at_one(0, 3, low, high),
-            pair(1, 3, low, high),
-        ];
-        let mut spare = vars;
-        work($rt, &mut vars, &mut pairs, $best, &mut spare)
-    }};
+fn work_ring<K: Kind + Display>(
+    rt: HostRuntime,
+    name: &str,
+    low: K,
+    high: K,
+    best: K,
+) -> anyhow::Result<()> {
+    println!(rt; "{name}")?;
+    let heap = rt.alloc();
+    let mut vars = Vec::new(heap);
+    vars.push(var(high, low))?;
+    vars.push(var(low, high))?;
+    vars.push(var(low, low))?;
+    vars.push(var(high, low))?;
+    let mut pairs = Vec::new(heap);
+    pairs.push(pair(0, 1, low, high))?;
+    pairs.push(pair(1, 2, low, high))?;
+    pairs.push(pair(2, 3, low, high))?;
+    pairs.push(both_at_one(0, 3, low, high))?;
+    pairs.push(pair(1, 3, low, high))?;
+    let mut spare = vars.clone()?;
+    work(rt, &mut vars, &mut pairs, best, &mut spare)
 }
 
-fn total(hits: u32) -> Total {
-    match Total::score(Access { hits, cycles: 1 }) {
-        Some(score) => score,
-        None => Total::neutral(),
-    }
-}
-
-fn worst(margin: i32) -> Worst {
-    match Worst::score(Slack { margin }) {
-        Some(score) => score,
-        None => Worst::neutral(),
-    }
-}
-
-fn over_total(weight: i32, hits: u32) -> Tiered<Total> {
-    Tiered {
-        weight,
-        second: total(hits),
-    }
-}
-
-fn over_worst(weight: i32, margin: i32) -> Tiered<Worst> {
-    Tiered {
-        weight,
-        second: worst(margin),
-    }
-}
-
-fn work_total(rt: HostRuntime) -> anyhow::Result<()> {
-    println!(rt; "total")?;
-    work_ring!(rt, total(0), total(3), total(21))
-}
-
-fn work_worst(rt: HostRuntime) -> anyhow::Result<()> {
-    println!(rt; "worst margin")?;
-    work_ring!(rt, worst(4), worst(7), worst(4))?;
-    let vars = [var(worst(4), worst(7))];
+// Asks the bound for worst margin alone about one variable.
+fn work_base_alone(rt: HostRuntime, base: Worst, low: Worst, high: Worst) -> anyhow::Result<()> {
+    let vars = [var(low, high)];
     let mut spare = vars;
-    show_bound::<Worst, BaseAlone>(rt, "base alone", worst(3), &vars, &[], worst(4), &mut spare)
+    show_bound::<Worst, BaseAlone>(rt, "base alone", base, &vars, &[], low, &mut spare)
 }
 
-fn work_over_total(rt: HostRuntime) -> anyhow::Result<()> {
-    println!(rt; "tiered over total")?;
-    work_ring!(rt, over_total(0, 5), over_total(1, 0), over_total(8, 0))
+// The score of an entry, neutral where the kind does not take it.
+fn held<K: Kind>(entry: K::Entry) -> K {
+    K::score(entry).unwrap_or(K::neutral())
 }
 
-fn work_over_worst(rt: HostRuntime) -> anyhow::Result<()> {
-    println!(rt; "tiered over worst margin")?;
-    work_ring!(rt, over_worst(0, 4), over_worst(0, 7), over_worst(0, 3))
+fn over<K>(weight: i32, second: K) -> Tiered<K> {
+    Tiered { weight, second }
 }
 
 fn main(rt: HostRuntime) -> anyhow::Result<()> {
-    work_total(rt)?;
-    work_worst(rt)?;
-    work_over_total(rt)?;
-    work_over_worst(rt)?;
+    let total = |hits: u32| held::<Total>(Access { hits, cycles: 1 });
+    let worst = |margin: i32| held::<Worst>(Slack { margin });
+    work_ring(rt, "total", total(0), total(3), total(21))?;
+    work_ring(rt, "worst margin", worst(4), worst(7), worst(4))?;
+    work_base_alone(rt, worst(3), worst(4), worst(7))?;
+    work_ring(
+        rt,
+        "tiered over total",
+        over(0, total(5)),
+        over(1, total(0)),
+        over(8, total(0)),
+    )?;
+    work_ring(
+        rt,
+        "tiered over worst margin",
+        over(0, worst(4)),
+        over(0, worst(7)),
+        over(0, worst(3)),
+    )?;
     work_splits(rt)
 }
