@@ -5,15 +5,13 @@ ghost use Rattle.std.specs.Prelude.{◌≡◌, length, take, drop};
 ghost use Rattle.notes.specs.Removals.{bank_number};
 ghost use Rattle.worksheet.specs.Does.{AloneDoes, OneDoes, TwoDoes, SetDoes};
 ghost use Rattle.worksheet.specs.Left.{AloneLeft, OneLeft, TwoLeft, SetLeft, WhereNone};
-ghost use Rattle.worksheet.specs.Noting.{alone_note, one_note, two_note, set_note};
 
 use notes::removal::{Removal, Way};
 use partners::links::{ByOne, ByTwo, alone_at, one_at, present_at, two_at};
 use records::access::first;
 use records::pairs::Pair;
-use score::choice::Choice;
 use score::interface::Kind;
-use score::values::{Four, Two};
+use score::values::Two;
 use sheets::changing::{
     best_with_one, best_with_two, better, drop_pairs, hand_over, join_at, leave, post_pair, scores_of,
 };
@@ -24,57 +22,6 @@ fn bank_number(value: bool) -> u8
     ensures { result ≡ bank_number value }
 {
     u8::from(value)
-}
-
-fn alone_note<K: Copy>(y: u32, best: Choice<K>) -> Removal
-    ensures { result ≡ alone_note y best }
-{
-    Removal {
-        variable: y,
-        way: Way::Alone {
-            value: bank_number(best.second),
-        },
-    }
-}
-
-fn one_note<K: Copy>(y: u32, partner: u32, at0: Choice<K>, at1: Choice<K>) -> Removal
-    ensures { result ≡ one_note y partner at0 at1 }
-{
-    Removal {
-        variable: y,
-        way: Way::ByOne {
-            partner,
-            at0: bank_number(at0.second),
-            at1: bank_number(at1.second),
-        },
-    }
-}
-
-fn two_note<K: Copy>(y: u32, low: u32, high: u32, best: Four<Choice<K>>) -> Removal
-    ensures { result ≡ two_note y low high best }
-{
-    Removal {
-        variable: y,
-        way: Way::ByTwo {
-            low,
-            high,
-            at00: bank_number(best.at00.second),
-            at01: bank_number(best.at01.second),
-            at10: bank_number(best.at10.second),
-            at11: bank_number(best.at11.second),
-        },
-    }
-}
-
-fn set_note(y: u32, value: bool) -> Removal
-    ensures { result ≡ set_note y value }
-{
-    Removal {
-        variable: y,
-        way: Way::Set {
-            value: bank_number(value),
-        },
-    }
 }
 
 // A variable without partners takes its better value, and that score is joined to the base.
@@ -92,7 +39,12 @@ pub fn remove_alone<K: Kind>(
     let best = better(var);
     *base = base.join(best.score);
     leave(vars, y);
-    Some(alone_note(y, best))
+    Some(Removal {
+        variable: y,
+        way: Way::Alone {
+            value: bank_number(best.second),
+        },
+    })
 }
 
 // A variable with one partner leaves: each score of the partner is joined with the better, over the variable's values, of its
@@ -119,7 +71,14 @@ pub fn remove_by_one<K: Kind>(
     };
     join_at(vars, link.partner, scores);
     *used = drop_pairs(pairs, before, y);
-    Some(one_note(y, link.partner, at0, at1))
+    Some(Removal {
+        variable: y,
+        way: Way::ByOne {
+            partner: link.partner,
+            at0: bank_number(at0.second),
+            at1: bank_number(at1.second),
+        },
+    })
 }
 
 // A variable with two partners leaves: for each of their values, the better over the variable's of its score and both pairs'
@@ -141,7 +100,17 @@ pub fn remove_by_two<K: Kind>(
     leave(vars, y);
     let rest = drop_pairs(pairs, before, y);
     *used = post_pair(pairs, rest, low.partner, high.partner, scores_of(best));
-    Some(two_note(y, low.partner, high.partner, best))
+    Some(Removal {
+        variable: y,
+        way: Way::ByTwo {
+            low: low.partner,
+            high: high.partner,
+            at00: bank_number(best.at00.second),
+            at01: bank_number(best.at01.second),
+            at10: bank_number(best.at10.second),
+            at11: bank_number(best.at11.second),
+        },
+    })
 }
 
 // A variable takes a value: its score goes to the base, and the score of each of its pairs to the partner.
@@ -164,5 +133,10 @@ pub fn set_variable<K: Kind>(
     leave(vars, y);
     hand_over(vars, first(pairs, before), y, value);
     *used = drop_pairs(pairs, before, y);
-    Some(set_note(y, value))
+    Some(Removal {
+        variable: y,
+        way: Way::Set {
+            value: bank_number(value),
+        },
+    })
 }

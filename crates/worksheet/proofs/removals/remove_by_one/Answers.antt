@@ -1,6 +1,8 @@
 use Rattle.std.proofs.Common.{◌≡◌, take, set, Some, None, sym, refl, ap, ◌∙◌, ap₂}
 use Rattle.sheets.specs.Changed.{join_at}
 use Rattle.partners.specs.Links.{one_at}
+use Rattle.notes.specs.declared.removal.Way.TheVariants.{ByOne}
+use Rattle.notes.specs.Removals.{removal}
 use Rattle.worksheet.specs.Noting.{one_note}
 use Rattle.worksheet.proofs.Does.{if_none, if_some}
 use Rattle.worksheet.proofs.Removed.{one_done, one_refused}
@@ -27,17 +29,18 @@ returns g c =
     = ap (λ ps. one_at c.args.vars.now ps y) (sym c.first.ensures) ∙ sym c.in_ok-var.ensures in
     let vars_are = c.join_at.ensures
     ∙ ap (λ vs. join_at J vs x (record { zero = c.best_with_one-at0.result.score; one = c.best_with_one-at1.result.score })) c.leave.ensures in
+    let note_is = ap₂ (λ v w. removal y (ByOne x v w)) c.bank_number.ensures c.bank_number-2.ensures in
     record {
       left = one_done g.K.Kind.model g.met.K.Kind.lawful g.K.Kind.means J g.met.K.Kind.exact
           c.args.vars.now _ (take c.args.used.now c.args.pairs.now) _ y by _ c.best_with_one-at0.result c.best_with_one-at1.result
-          at c.best_with_one-at0.ensures c.best_with_one-at1.ensures vars_are c.drop_pairs.ensures.kept c.one_note.ensures;
+          at c.best_with_one-at0.ensures c.best_with_one-at1.ensures vars_are c.drop_pairs.ensures.kept note_is;
       does = if_some _ _ _ by (sym at)
           (record {
             vars_are = vars_are
                 ∙ ap₂ (λ a0 a1. join_at J (set c.args.vars.now y None) x (record { zero = a0.score; one = a1.score })) c.best_with_one-at0.ensures c.best_with_one-at1.ensures;
             pairs_are = c.drop_pairs.ensures.kept;
             within = c.drop_pairs.ensures.within;
-            note_is = ap Some (c.one_note.ensures ∙ ap₂ (one_note y x) c.best_with_one-at0.ensures c.best_with_one-at1.ensures);
+            note_is = ap Some (note_is ∙ ap₂ (one_note y x) c.best_with_one-at0.ensures c.best_with_one-at1.ensures);
           });
       unused = c.drop_pairs.ensures.rest;
       refused = tt;

@@ -1,6 +1,8 @@
 use Rattle.std.proofs.Common.{◌≡◌, take, drop, set, Some, sym, refl, ap, ◌∙◌, ap₂, arith}
 use Rattle.sheets.specs.Changed.{two_scores, kept, post}
 use Rattle.partners.specs.Links.{two_at}
+use Rattle.notes.specs.declared.removal.Way.TheVariants.{ByTwo}
+use Rattle.notes.specs.Removals.{bank_number, removal}
 use Rattle.worksheet.specs.Noting.{two_note}
 use Rattle.worksheet.proofs.Does.{if_none, if_some}
 use Rattle.worksheet.proofs.Posting.{post_in_use, post_in_rest, post_used_within}
@@ -37,10 +39,12 @@ returns g c =
     let pairs_are = ap₂ take c.post_pair.ensures.used c.post_pair.ensures.table
     ∙ post_in_use J x z c.scores_of.result c.drop_pairs-rest.new.pairs c.drop_pairs-rest.result room.0
     ∙ ap (post J x z c.scores_of.result) c.drop_pairs-rest.ensures.kept in
+    let note_is = ap₂ (λ v w. removal y (ByTwo x z v w c.bank_number-3.result c.bank_number-4.result)) c.bank_number.ensures c.bank_number-2.ensures
+    ∙ ap₂ (λ v w. removal y (ByTwo x z (bank_number c.best_with_two-best.result.at00.second) (bank_number c.best_with_two-best.result.at01.second) v w)) c.bank_number-3.ensures c.bank_number-4.ensures in
     record {
       left = two_done g.K.Kind.model g.met.K.Kind.lawful g.K.Kind.means J g.met.K.Kind.exact
           c.args.vars.now _ (take used all) _ y by _ c.best_with_two-best.result c.scores_of.result at
-          best c.scores_of.ensures vars_are pairs_are c.two_note.ensures;
+          best c.scores_of.ensures vars_are pairs_are note_is;
       does = if_some _ _ _ by (sym at)
           (record {
             vars_are = vars_are;
@@ -51,7 +55,7 @@ returns g c =
               post_used_within J x z c.scores_of.result c.drop_pairs-rest.new.pairs c.drop_pairs-rest.result room.0,
               c.drop_pairs-rest.auto.pairs,
             );
-            note_is = ap Some (c.two_note.ensures ∙ ap (two_note y x z) best);
+            note_is = ap Some (note_is ∙ ap (two_note y x z) best);
           });
       unused = ap (drop used) c.post_pair.ensures.table
           ∙ post_in_rest J x z c.scores_of.result c.drop_pairs-rest.new.pairs c.drop_pairs-rest.result used room.1

@@ -1,5 +1,7 @@
 use Rattle.std.proofs.Common.{◌≡◌, take, set, Some, sym, refl, ap, ◌∙◌}
 use Rattle.sheets.specs.Changed.{handed}
+use Rattle.notes.specs.declared.removal.Way.TheVariants.{Set}
+use Rattle.notes.specs.Removals.{removal}
 use Rattle.worksheet.proofs.Does.{if_none, if_some}
 use Rattle.worksheet.proofs.Removed.{set_done, set_refused}
 use Rattle.worksheet.proofs.removals.set_variable.Goals as goal
@@ -23,12 +25,13 @@ returns g c =
     let vars_are = c.hand_over.ensures
     ∙ ap (λ vs. handed J y c.args.value vs c.first.result.now) c.leave.ensures
     ∙ ap (handed J y c.args.value _) c.first.ensures in
+    let note_is = ap (λ v. removal y (Set v)) c.bank_number.ensures in
     record {
       left = set_done g.K.Kind.model g.met.K.Kind.lawful g.K.Kind.means J g.met.K.Kind.exact
           c.args.base.now _ c.args.vars.now _ (take c.args.used.now c.args.pairs.now) _ y c.args.value c.in_ok-var.var _
-          (sym c.in_ok-var.ensures) base_is vars_are c.drop_pairs.ensures.kept c.set_note.ensures;
+          (sym c.in_ok-var.ensures) base_is vars_are c.drop_pairs.ensures.kept note_is;
       does = if_some _ _ _ c.in_ok-var.var c.in_ok-var.ensures
-          (record { base_is = base_is; vars_are = vars_are; pairs_are = c.drop_pairs.ensures.kept; within = c.drop_pairs.ensures.within; note_is = ap Some c.set_note.ensures });
+          (record { base_is = base_is; vars_are = vars_are; pairs_are = c.drop_pairs.ensures.kept; within = c.drop_pairs.ensures.within; note_is = ap Some note_is });
       unused = c.drop_pairs.ensures.rest;
       refused = tt;
     }
