@@ -11,4 +11,3 @@ pub mod Running
 pub mod Replying
 pub mod Sound
 pub mod Order
-pub mod Does

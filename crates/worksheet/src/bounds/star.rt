@@ -19,11 +19,7 @@ impl<K: Kind> Bound<K> for Star {
     ghost admissible = { star_admissible K.Kind.model K.Kind.lawful };
 
     fn ask(base: K, vars: &[Var<K>], pairs: &[Pair<K>], work: &mut [Var<K>]) -> Option<K> {
-        let size = vars.len();
-        if size > work.len() {
-            return None;
-        }
-        let table = &mut work[0..size];
+        let table = work.get_mut(..vars.len())?;
         table.copy_from_slice(vars);
         with_arms(table, pairs);
         Some(with_vars(base, table))

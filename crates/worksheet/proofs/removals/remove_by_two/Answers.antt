@@ -1,24 +1,21 @@
-use Rattle.std.proofs.Common.{◌≡◌, take, drop, set, Some, sym, refl, ap, ◌∙◌, ap₂, arith}
+use Rattle.std.proofs.Common.{◌≡◌, take, drop, Some, Option, sym, ap, ◌∙◌, subst, ap₂, MatchOption, arith}
 use Rattle.sheets.specs.Changed.{two_scores, kept, post}
 use Rattle.partners.specs.Links.{two_at}
 use Rattle.notes.specs.declared.removal.Way.TheVariants.{ByTwo}
 use Rattle.notes.specs.Removals.{bank_number, removal}
 use Rattle.worksheet.specs.Noting.{two_note}
-use Rattle.worksheet.proofs.Does.{if_none, if_some}
 use Rattle.worksheet.proofs.Posting.{post_in_use, post_in_rest, post_used_within}
 use Rattle.worksheet.proofs.Removed.{two_done, two_refused, two_room}
 use Rattle.worksheet.proofs.removals.remove_by_two.Goals as goal
 
-pub returns-in_err-var : goal.returns-in_err-var
-returns-in_err-var g c = rw c.from_residual.ensures
-    (record {
-      left = two_refused g.K.Kind.model g.met.K.Kind.lawful g.K.Kind.means g.K.Kind.held g.met.K.Kind.exact
-          c.args.vars.now c.args.vars.now (take c.args.used.now c.args.pairs.now) (take c.args.used.now c.args.pairs.now) c.args.y
-          (ap (λ ps. two_at c.args.vars.now ps c.args.y) (sym c.first.ensures) ∙ sym c.in_err-var.ensures);
-      does = if_none _ _ _ (c.in_err-var.ensures ∙ ap (λ ps. two_at c.args.vars.now ps c.args.y) c.first.ensures) refl;
-      unused = refl;
-      refused = (refl, refl, refl);
-    })
+if_some : {T : Type 0} (P : Type 0) (Q : T → Type 0) (o : Option T) (x : T) → Some x ≡ o → Q x → MatchOption o P Q
+if_some P Q o x e q = subst (λ z. MatchOption z P Q) e q
+
+pub returns-in_err-var-clause-left : goal.returns-in_err-var-clause-left
+returns-in_err-var-clause-left g c = rw c.from_residual.ensures
+    (two_refused g.K.Kind.model g.met.K.Kind.lawful g.K.Kind.means g.K.Kind.held g.met.K.Kind.exact
+    c.args.vars.now c.args.vars.now (take c.args.used.now c.args.pairs.now) (take c.args.used.now c.args.pairs.now) c.args.y
+    (ap (λ ps. two_at c.args.vars.now ps c.args.y) (sym c.first.ensures) ∙ sym c.in_err-var.ensures))
 
 pub returns : goal.returns
 returns g c =

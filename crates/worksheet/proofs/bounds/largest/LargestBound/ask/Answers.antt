@@ -1,11 +1,8 @@
-use Rattle.std.proofs.Common.{Some, ap, ◌∙◌, arith}
+use Rattle.std.proofs.Common.{Some, ap, ◌∙◌}
 use Rattle.worksheet.proofs.Replying.{largest_replies}
 use Rattle.worksheet.proofs.bounds.largest.LargestBound.ask.Goals as goal
 
-pub returns : goal.returns
-returns g c = record {
-  reply = λ _ arranged few.
-      ap (λ k. Some (g.K.Kind.means k)) c.largest_of.ensures
-      ∙ ap Some (largest_replies g.K.Kind.model g.met.K.Kind.lawful g.K.Kind.means g.K.Kind.held g.met.K.Kind.exact c.args.base c.args.vars.now c.args.pairs.now arranged few);
-  short = λ h. absurd (omega arith);
-}
+pub returns-clause-reply : goal.returns-clause-reply
+returns-clause-reply g c _ arranged few =
+    ap (λ k. Some (g.K.Kind.means k)) c.largest_of.ensures
+    ∙ ap Some (largest_replies g.K.Kind.model g.met.K.Kind.lawful g.K.Kind.means g.K.Kind.held g.met.K.Kind.exact c.args.base c.args.vars.now c.args.pairs.now arranged few)

@@ -1,20 +1,16 @@
-use Rattle.std.proofs.Common.{Some, ap, ◌∙◌, arith}
+use Rattle.std.proofs.Common.{Some, ap, ◌∙◌}
 use Rattle.sheets.specs.Totals.{with_vars, arms}
 use Rattle.worksheet.proofs.Replying.{star_replies}
 use Rattle.worksheet.proofs.bounds.star.StarBound.ask.Goals as goal
 
-pub returns : goal.returns
-returns g c =
+pub returns-clause-reply : goal.returns-clause-reply
+returns-clause-reply g c _ arranged few =
     let M = g.K.Kind.model in
     let means = g.K.Kind.means in
     let J = g.K.Kind.held in
     let vs = c.args.vars.now in
     let ps = c.args.pairs.now in
-    record {
-      reply = λ _ arranged few.
-          ap (λ k. Some (means k))
-          (c.with_vars.ensures
-          ∙ ap (with_vars M means J c.args.base) (c.with_arms.ensures ∙ ap (λ ws. arms M means J ws ps) c.copy_from_slice.ensures.after))
-          ∙ ap Some (star_replies M g.met.K.Kind.lawful means J g.met.K.Kind.exact c.args.base vs ps arranged few);
-      short = λ h. absurd (omega arith);
-    }
+    ap (λ k. Some (means k))
+    (c.with_vars.ensures
+    ∙ ap (with_vars M means J c.args.base) (c.with_arms.ensures ∙ ap (λ ws. arms M means J ws ps) c.copy_from_slice.ensures.after))
+    ∙ ap Some (star_replies M g.met.K.Kind.lawful means J g.met.K.Kind.exact c.args.base vs ps arranged few)
