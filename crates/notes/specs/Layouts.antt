@@ -1,10 +1,10 @@
 -- Layouts of bytes, and the one that notes give. Assumes nothing.
-use Rattle.std.specs.Prelude.{◌≡◌, ℕ, ◌<◌, Bool, false, List, [], ◌∷◌, map, reverse, length, Some, None, slice_set}
-use Rattle.std.specs.List.{AllByRecursion, slice_get}
+use Rattle.std.specs.Prelude.{◌≡◌, ℕ, ◌<◌, Bool, List, [], ◌∷◌, map, reverse, length, slice_set}
+use Rattle.std.specs.List.{AllByRecursion}
 use Rattle.steps.specs.Steps.{taken, read}
 use Rattle.calls.specs.Runs.{values}
 use Rattle.notes.specs.declared.removal.Removal.{Removal}
-use Rattle.notes.specs.Removals.{bank, bank_number, way_of, note_of}
+use Rattle.notes.specs.Removals.{bank_number, way_of, note_of}
 
 -- the value of v; past the end it is 0
 abbrev pub bank_at : List ℕ → ℕ → Bool

@@ -35,10 +35,7 @@ fn value_taken(way: Way, layout: &[u8]) -> bool
                 at10,
                 at11,
             };
-            choices.at(
-                is_one(layout, low as usize),
-                is_one(layout, high as usize),
-            )
+            choices.at(is_one(layout, low as usize), is_one(layout, high as usize))
         }
     };
     value == 1

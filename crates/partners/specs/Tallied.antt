@@ -1,5 +1,5 @@
 -- How many pairs touch each variable. Assumes nothing.
-use Rattle.std.specs.Prelude.{ℕ, ◌+◌, ◌%◌, ◌^◌, List, [], ◌∷◌, Some, None, slice_set}
+use Rattle.std.specs.Prelude.{ℕ, ◌+◌, ◌%◌, ◌^◌, List, Some, None, slice_set}
 use Rattle.std.specs.List.{fold, slice_get}
 use Rattle.records.specs.declared.pairs.Pair.{Pair}
 

@@ -35,8 +35,16 @@ fn low_bests<K: Kind>(pair: &Pair<K>) -> Two<K>
         at11,
     } = pair.scores;
     Two {
-        zero: better(Two { zero: at00, one: at01 }).score,
-        one: better(Two { zero: at10, one: at11 }).score,
+        zero: better(Two {
+            zero: at00,
+            one: at01,
+        })
+        .score,
+        one: better(Two {
+            zero: at10,
+            one: at11,
+        })
+        .score,
     }
 }
 

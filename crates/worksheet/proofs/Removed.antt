@@ -28,7 +28,7 @@ use Rattle.partners.specs.Links.{links, first_link, present_at, alone_at, one_at
 use Rattle.notes.specs.Removals.{note_of}
 use Rattle.worksheet.specs.Noting.{alone_note, one_note, two_note, set_note}
 use Rattle.score.specs.Values.{at_two, at_four}
-use Rattle.worksheet.specs.Records.{link_scores, pair_scores, var_says, var_scores, found, contents, Arranged}
+use Rattle.worksheet.specs.Records.{link_scores, pair_scores, var_says, found, contents, Arranged}
 use Rattle.worksheet.proofs.Asked.{present_is, absent_is, alone_asked, alone_unasked, one_asked, one_unasked, two_asked, two_unasked}
 use Rattle.worksheet.proofs.Handing.{hand_all, handed_links, hand_all_length, hand_all_placed, hand_all_other, hand_says}
 use Rattle.worksheet.proofs.Leaving.{found_kept, kept_all, kept_fewer, gone_says, leaving, leaving_arranged, gone_present}

@@ -5,7 +5,7 @@ use Rattle.std.specs.List.{AllByRecursion, slice_get}
 use Rattle.std.proofs.lemmas.List.{map-append}
 use Rattle.std.proofs.ByRecursion.{All-weaker}
 use Rattle.std.proofs.lemmas.Option.{slice_get_past}
-use Rattle.std.proofs.lemmas.Bool.{cases_Bool, cases_eq, cond-true, cond-false, eqb-true, eqb-false, and_parts}
+use Rattle.std.proofs.lemmas.Bool.{cases_Bool, cases_eq, cond-false, eqb-true, eqb-false, and_parts}
 use Rattle.score.specs.Model.{Model, Laws, Of, Together, better, joined, exact_entries}
 use Rattle.score.specs.Joins.{Within}
 use Rattle.score.proofs.Entries.{joined_append, of_sum}
@@ -20,7 +20,7 @@ use Rattle.sheets.specs.Totals.{best_of_two, low_bests, best_pair, with_vars, wi
 use Rattle.worksheet.specs.Bounds.{largest_score, best_four, arm, star_score}
 use Rattle.sheets.specs.Changed.{chosen, choose_held}
 use Rattle.sheets.specs.Variables.{Var, joined_var}
-use Rattle.score.specs.Values.{at_two, joined_two, at_four}
+use Rattle.score.specs.Values.{at_two, at_four}
 use Rattle.records.specs.Pairs.{is_pair}
 use Rattle.worksheet.specs.Records.{var_scores, var_says, pair_scores, found, contents, Present, Placed, Arranged}
 use Rattle.records.proofs.Lists.{nth_none, nth_below}

@@ -1,5 +1,5 @@
 -- The contents of records in order are sound. Assumes nothing.
-use Rattle.std.proofs.Common.{◌≡◌, ℕ, ◌<◌, true, false, cond, eqb, List, [], ◌∷◌, length, is_some, Some, None, Option, sym, refl, ap, ◌∙◌, subst, ⊎_elim}
+use Rattle.std.proofs.Common.{◌≡◌, ℕ, ◌<◌, true, false, eqb, List, [], ◌∷◌, length, is_some, Some, None, Option, sym, refl, ap, ◌∙◌, subst, ⊎_elim}
 use Rattle.std.specs.Option.{option_map}
 use Rattle.std.specs.List.{AllByRecursion, slice_get}
 use Rattle.std.proofs.lemmas.Bool.{both_ways, cases_Bool, cond-false, and_parts, eqb-true}
@@ -8,7 +8,7 @@ use Rattle.records.specs.declared.pairs.Pair.{Pair}
 use Rattle.sheets.specs.Variables.{Var}
 use Rattle.worksheet.specs.Claims.{ContentsSound}
 use Rattle.records.specs.Pairs.{is_pair}
-use Rattle.worksheet.specs.Records.{found, var_says, var_scores, pair_scores, Present, Placed}
+use Rattle.worksheet.specs.Records.{found, var_says, pair_scores, Present, Placed}
 use Rattle.records.proofs.Lists.{nth_below}
 
 module _ {K S : Type 0} (means : K → S) (b : K) (vs : List (Var K)) where

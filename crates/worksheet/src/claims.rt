@@ -7,11 +7,9 @@ use score::interface::Kind;
 #[tactic(auto, using(crate::proofs::Sound::contents_sound))]
 pub fn contents_are_sound<K: Kind>()
     ensures { ContentsSound K.Kind.means }
-{
-}
+{}
 
 // The order of the pairs does not matter.
 pub fn order_is_free<K: Kind>()
     ensures { OrderFree K.Kind.means }
-{
-}
+{}

@@ -13,7 +13,8 @@ use records::pairs::Pair;
 use score::interface::Kind;
 use score::values::Two;
 use sheets::changing::{
-    best_with_one, best_with_two, better, drop_pairs, hand_over, join_at, leave, post_pair, scores_of,
+    best_with_one, best_with_two, better, drop_pairs, hand_over, join_at, leave, post_pair,
+    scores_of,
 };
 use sheets::variables::Var;
 
