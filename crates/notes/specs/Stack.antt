@@ -1,15 +1,11 @@
 -- The stack of notes. Assumes nothing.
 use Rattle.std.specs.Prelude.{ℕ, suc, min, cond, List, length, take, nat_lt, slice_set}
 use Rattle.notes.specs.declared.removal.Removal.{Removal}
-use Rattle.notes.specs.declared.stack.Notes.{Notes}
 
 -- the table, and how many are noted in it, the oldest first
 pub record Noted : Type 0 where
   pub table : List Removal
   pub count : ℕ
-
-abbrev pub held_notes : Notes → Noted
-held_notes s = record { table = s.table.now; count = s.count }
 
 abbrev pub no_notes : List Removal → Noted
 no_notes ns = record { table = ns; count = 0 }

@@ -58,7 +58,7 @@ pub fn present_at<K: Copy>(vars: &[Var<K>], y: u32) -> Option<Two<K>>
     vars.get(y as usize).copied().flatten()
 }
 
-// The scores of a variable without partners.
+// The scores of a variable without partners. Each of these three answers with what its own removal needs.
 pub fn alone_at<K: Copy>(vars: &[Var<K>], pairs: &[Pair<K>], y: u32) -> Option<Two<K>>
     ensures { result ≡ alone_at vars.now pairs.now y }
 {

@@ -5,6 +5,7 @@ ghost use Rattle.partners.specs.Tallied.{one_more, both_more, tallied};
 use records::access::{read, write};
 use records::pairs::Pair;
 
+// The count is read and written back, since `get_mut` leaves unsaid what the slice ends as.
 fn add_one(counts: &mut [usize], v: u32)
     ensures { counts.new ≡ one_more counts.old v }
 {

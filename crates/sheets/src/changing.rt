@@ -72,7 +72,8 @@ pub fn leave<K: Copy>(vars: &mut [Var<K>], y: u32)
     write(vars, y as usize, None);
 }
 
-// Joins two scores onto a variable's, if it remains.
+// Joins two scores onto a variable's, if it remains. The record is read and written back, since `get_mut` leaves unsaid what the
+// slice ends as.
 pub fn join_at<K: Kind>(vars: &mut [Var<K>], x: u32, scores: Two<K>)
     ensures { vars.new ≡ join_at K.Kind.held vars.old x scores }
 {
@@ -129,7 +130,7 @@ pub fn hand_over<K: Kind>(vars: &mut [Var<K>], pairs: &[Pair<K>], y: u32, c: boo
     }
 }
 
-// Joins four scores onto a pair's.
+// Joins four scores onto a pair's, read and written back likewise.
 fn join_pair_at<K: Kind>(pairs: &mut [Pair<K>], at: usize, scores: Four<K>)
     ensures { pairs.new ≡ join_pair_at K.Kind.held pairs.old at scores }
 {

@@ -1,6 +1,7 @@
 // The removals of a variable from a worksheet: alone, by one partner, by two partners, and set.
 //
 // A call for a variable that does not remain, or has not so many partners, leaves all as found and returns `None`.
+// The memory is the caller's, so the pairs are lent with the count of those in use beside them.
 ghost use Rattle.std.specs.Prelude.{◌≡◌, length, take, drop};
 ghost use Rattle.notes.specs.Removals.{bank_number};
 ghost use Rattle.worksheet.specs.Does.{AloneDoes, OneDoes, TwoDoes, SetDoes};
