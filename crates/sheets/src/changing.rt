@@ -54,6 +54,7 @@ pub fn best_with_two<K: Kind>(var: Two<K>, low: Link<K>, high: Link<K>) -> Four<
     }
 }
 
+// A `map` would take a closure, and with it a `requires`, which no public function has.
 pub fn scores_of<K: Copy>(best: Four<Choice<K>>) -> Four<K>
     ensures { result ≡ two_scores best }
 {

@@ -13,7 +13,7 @@ use Rattle.steps.specs.Sheet.{Sheet, remains, partners, degree, one_score, two_s
 use Rattle.steps.specs.Start.{banks}
 use Rattle.steps.specs.Steps.{noted, alone, by_one, by_two}
 use Rattle.steps.proofs.Choices.{bank_chosen}
-use Rattle.steps.proofs.Sheets.{pair_self}
+use Rattle.steps.proofs.Sheets.{none_if, pair_self}
 use Rattle.partners.specs.declared.links.ByOne.{ByOne}
 use Rattle.partners.specs.declared.links.ByTwo.{ByTwo}
 use Rattle.notes.specs.declared.removal.Removal.{Removal}
@@ -246,7 +246,7 @@ module _ {E S K : Type 0} (M : Model E S) (laws : Laws M) (means : K → S) (J :
           others = λ v h.
               let d = or_parts (eqb v y) (partners s y v) h in
               ap (λ xs. slice_get xs v) vs_all
-              ∙ hand_all_other J c ls ws v (none_of (first_link v ls) (sym (partners_links means b vs ps arranged.placed y v) ∙ d.1))
+              ∙ hand_all_other J c ls ws v (none_if (first_link v ls) (both_ways (is_some (first_link v ls)) (sym (partners_links means b vs ps arranged.placed y v) ∙ d.1)))
               ∙ nth_set_other vs y v None (eqb-false v y d.0);
           other_pairs = λ a e h. ap (found a e) ps_is ∙ found_kept y ps a e ∙ cond-false (eqb a y || eqb e y) None (found a e ps) h;
           note_is = λ _. ap note_of n_is ∙ set_means y c;
@@ -264,10 +264,6 @@ module _ {E S K : Type 0} (M : Model E S) (laws : Laws M) (means : K → S) (J :
       through : (f : (Bool → S) → (Bool → S)) (t : Bool) (o : Option (Bool → S)) → option_map f (cond t None o) ≡ cond t None (option_map f o)
       through f true o = refl
       through f false o = refl
-
-      none_of : (o : Option (Link K)) → is_some o ≡ false → o ≡ None
-      none_of None e = refl
-      none_of (Some l) e = absurd (both_ways true e refl)
 
   pub set_refused : (b b' : K) (vs vs' : List (Var K)) (ps ps' : List (Pair K)) (y : ℕ) (c : Bool) → present_at vs y ≡ None → SetLeft M means b b' vs vs' ps ps' y c None
   set_refused b b' vs vs' ps ps' y c at arranged = absent_is means vs y at
