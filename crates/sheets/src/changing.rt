@@ -75,12 +75,11 @@ pub fn leave<K: Copy>(vars: &mut [Var<K>], y: u32)
 
 // Joins two scores onto a variable's, if it remains. The record is read and written back, since `get_mut` leaves unsaid what the
 // slice ends as.
-pub fn join_at<K: Kind>(vars: &mut [Var<K>], x: u32, scores: Two<K>)
+pub fn join_at<K: Kind>(vars: &mut [Var<K>], x: usize, scores: Two<K>)
     ensures { vars.new ≡ join_at K.Kind.held vars.old x scores }
 {
-    let at = x as usize;
-    if let Some(var) = read(vars, at) {
-        write(vars, at, var.map(|own| own.joined(scores)));
+    if let Some(var) = read(vars, x) {
+        write(vars, x, var.map(|own| own.joined(scores)));
     }
 }
 
@@ -118,7 +117,7 @@ fn hand<K: Kind>(vars: &mut [Var<K>], link: Option<Link<K>>, c: bool)
             zero: link.scores.at(c, false),
             one: link.scores.at(c, true),
         };
-        join_at(vars, link.partner, scores);
+        join_at(vars, link.partner as usize, scores);
     }
 }
 

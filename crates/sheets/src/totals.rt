@@ -67,7 +67,7 @@ pub fn with_pairs<K: Kind>(base: K, pairs: &[Pair<K>]) -> K
 fn with_arm<K: Kind>(table: &mut [Var<K>], pair: &Pair<K>)
     ensures { table.new ≡ with_arm K.Kind.model K.Kind.means K.Kind.held table.old pair.now }
 {
-    join_at(table, pair.low, low_bests(pair));
+    join_at(table, pair.low as usize, low_bests(pair));
 }
 
 // The same for each pair.

@@ -71,7 +71,7 @@ pub fn remove_by_one<K: Kind>(
         zero: at0.score,
         one: at1.score,
     };
-    join_at(vars, link.partner, scores);
+    join_at(vars, link.partner as usize, scores);
     *used = drop_pairs(pairs, before, y);
     Some(Removal {
         variable: y,
