@@ -60,6 +60,7 @@ stacks = record {
       ∙ ap (λ k. take k (set h.table h.count n)) (sym (add-one h.count))
       ∙ take_more_set h.table h.count n room;
   note_fewer = λ h k few. ap (λ m. take m h.table) (omega arith) ∙ sym (take-take k h.count h.table few);
+  most_is = refl;
   split_more = λ s y n room. cond-true (ltb (length s) MOST_SPLITS) (s ++ at_zero y n ∷ []) s (lt-ltb (length s) MOST_SPLITS room);
   split_fewer = λ s some.
       let last = length s - 1 in

@@ -6,10 +6,12 @@ use Rattle.notes.specs.declared.splits.TheConstants.{MOST_SPLITS}
 use Rattle.notes.specs.Splits.{Bounded, at_zero, at_one, pushed, top_of, begun, popped}
 use Rattle.notes.specs.Stack.{Noted, notes_of, push_note, cut_notes}
 
--- Oldest first: a push adds one at the end, a pop takes it away, the newest is marked at the end. A stack of splits stays bounded.
+-- Oldest first: a push adds one at the end, a pop takes it away, the newest is marked at the end. A stack of splits has room for
+-- 20 and stays bounded.
 pub record Stacks : Type 0 where
   pub note_more : (h : Noted) (n : Removal) → h.count < length h.table → notes_of (push_note h n) ≡ notes_of h ++ n ∷ []
   pub note_fewer : (h : Noted) (k : ℕ) → k ≤ h.count → notes_of (cut_notes h k) ≡ take k (notes_of h)
+  pub most_is : MOST_SPLITS ≡ 20
   pub split_more : (s : List Split) (y n : ℕ) → length s < MOST_SPLITS → pushed s y n ≡ s ++ at_zero y n ∷ []
   pub split_fewer : (s : List Split) → 0 < length s → (p : Split) × (top_of s ≡ Some p) × (s ≡ popped s ++ p ∷ [])
   pub split_begun : (s : List Split) (p : Split) → top_of s ≡ Some p → begun s ≡ popped s ++ at_one p ∷ []
