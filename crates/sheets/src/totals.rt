@@ -21,7 +21,7 @@ fn with_var<K: Kind>(total: K, var: &Var<K>) -> K
 pub fn with_vars<K: Kind>(base: K, vars: &[Var<K>]) -> K
     ensures { result ≡ with_vars K.Kind.model K.Kind.means K.Kind.held base vars.now }
 {
-    vars.iter().fold(base, |total, var| with_var(total, var))
+    vars.iter().fold(base, with_var)
 }
 
 // The better entries of a pair, at each value of its lower variable.
