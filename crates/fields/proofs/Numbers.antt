@@ -1,29 +1,21 @@
 -- What digits write, digit by digit. Assumes nothing.
-use Rattle.std.proofs.Common.{◌≡◌, ℕ, ◌+◌, ◌-◌, ◌*◌, ◌<◌, min, true, false, ◌&&◌, eqb, List, [], ◌∷◌, ◌++◌, length, get_or, take, drop, sym, refl, ap, ◌∙◌, subst, arith, eq-eqb, ne_eqb, false-eqb}
+use Rattle.std.proofs.Common.{◌≡◌, ℕ, ◌+◌, ◌-◌, ◌*◌, ◌<◌, min, ◌^◌, fold, true, false, ◌&&◌, eqb, List, [], ◌∷◌, ◌++◌, length, get_or, take, drop, sym, refl, ap, ◌∙◌, subst, arith, eq-eqb, ne_eqb, false-eqb}
 use Rattle.std.specs.Char.{is_ascii_digit}
 use Rattle.std.specs.Str.{all_ascii_digits}
 use Rattle.std.proofs.lemmas.List.{at_drop_more, take_more, take_rest}
 use Rattle.std.proofs.lemmas.Bool.{cond-true, cond-false}
 use Rattle.fields.specs.Values.{minus, unsigned, value_after, value}
 
--- the steps of a search for a byte that is no digit
-module _ (bs : List ℕ) (i : ℕ) (inside : i < length bs) where
-  pub no_digit_here : is_ascii_digit (get_or bs i 0) ≡ false → all_ascii_digits (drop i bs) ≡ false
-  no_digit_here e = at_drop_more all_ascii_digits bs i 0 inside ∙ ap (λ t. t && all_ascii_digits (drop (i + 1) bs)) e
+-- a number with one digit more, held within 64 bits
+abbrev pub held : ℕ → ℕ → ℕ
+held v b = min (min (v * 10) (2 ^ 64 - 1) + (b - 48)) (2 ^ 64 - 1)
 
-  pub digit_here : is_ascii_digit (get_or bs i 0) ≡ true → all_ascii_digits (drop i bs) ≡ all_ascii_digits (drop (i + 1) bs)
-  digit_here e = at_drop_more all_ascii_digits bs i 0 inside ∙ ap (λ t. t && all_ascii_digits (drop (i + 1) bs)) e
+held_after : (ds : List ℕ) (v n : ℕ) → v ≡ min n (2 ^ 64 - 1) → fold held v ds ≡ min (value_after n ds) (2 ^ 64 - 1)
+held_after [] v n e = e
+held_after (d ∷ ds) v n e = held_after ds (held v d) (n * 10 + (d - 48)) (omega arith)
 
-value_push_after : (n : ℕ) (ds : List ℕ) (d : ℕ) → value_after n (ds ++ d ∷ []) ≡ value_after n ds * 10 + (d - 48)
-value_push_after n [] d = refl
-value_push_after n (x ∷ ds) d = value_push_after (n * 10 + (x - 48)) ds d
-
-pub value_more : (ds : List ℕ) (i : ℕ) → i < length ds → value (take (i + 1) ds) ≡ value (take i ds) * 10 + (get_or ds i 0 - 48)
-value_more ds i inside = ap value (take_more ds i 0 inside) ∙ value_push_after 0 (take i ds) (get_or ds i 0)
-
--- one digit more, where the number is held at most at `cap`
-pub capped_more : (cap v d held tens held' value' : ℕ) → held ≡ min v cap → tens ≡ min (held * 10) cap → held' ≡ min (tens + d) cap → value' ≡ v * 10 + d → held' ≡ min value' cap
-capped_more cap v d held tens held' value' a b e f = omega arith
+pub fold_held : (ds : List ℕ) → fold held 0 ds ≡ min (value ds) (2 ^ 64 - 1)
+fold_held ds = held_after ds 0 0 (omega arith)
 
 pub unsigned_minus : (bs : List ℕ) → get_or bs 0 0 ≡ minus → unsigned bs ≡ drop 1 bs
 unsigned_minus [] e = refl

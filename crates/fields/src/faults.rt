@@ -70,10 +70,7 @@ impl fmt::Display for Bad {
     ghost output = { λ b. Some (printed b) };
 
     fn fmt<W: fmt::Write>(&self, f: &mut fmt::Formatter<W>) -> fmt::Result {
-        let line = self.line;
-        let field = self.field;
-        let question = self.question;
-        write!(f, "bad,{line},{field},{question}")
+        write!(f, "bad,{},{},{}", self.line, self.field, self.question)
     }
 }
 
@@ -89,11 +86,11 @@ impl Bad {
     }
 }
 
-impl FieldFault {
-    fn reply(self) -> Bad
-        ensures { result ≡ field_bad self }
-    {
-        match self {
+impl From<FieldFault> for Bad {
+    ghost from_gives = { λ f r. r ≡ field_bad f };
+
+    fn from(fault: FieldFault) -> Bad {
+        match fault {
             FieldFault::Empty(place) => Bad::at(place.line, place.field, 26),
             FieldFault::NotDigits(place) => Bad::at(place.line, place.field, 27),
             FieldFault::OutOfRange(place) => Bad::at(place.line, place.field, 28),
@@ -102,16 +99,27 @@ impl FieldFault {
     }
 }
 
-impl LineFault {
-    fn reply(self) -> Bad
-        ensures { result ≡ line_bad self }
-    {
-        match self {
+impl From<LineFault> for Bad {
+    ghost from_gives = { λ f r. r ≡ line_bad f };
+
+    fn from(fault: LineFault) -> Bad {
+        match fault {
             LineFault::TooLong(line) => Bad::at(line, 0, 22),
             LineFault::UnknownWord(line) => Bad::at(line, 1, 23),
             LineFault::Misplaced(line) => Bad::at(line, 1, 24),
             LineFault::FieldCount(line) => Bad::at(line, 0, 25),
-            LineFault::Field(fault) => fault.reply(),
+            LineFault::Field(fault) => Bad::from(fault),
+        }
+    }
+}
+
+impl From<ListingFault> for Bad {
+    ghost from_gives = { λ f r. r ≡ listing_bad f };
+
+    fn from(fault: ListingFault) -> Bad {
+        match fault {
+            ListingFault::TooLarge => Bad::at(0, 0, 21),
+            ListingFault::Line(fault) => Bad::from(fault),
         }
     }
 }
@@ -120,9 +128,6 @@ impl ListingFault {
     pub fn reply(self) -> Bad
         ensures { result ≡ listing_bad self }
     {
-        match self {
-            ListingFault::TooLarge => Bad::at(0, 0, 21),
-            ListingFault::Line(fault) => fault.reply(),
-        }
+        Bad::from(self)
     }
 }

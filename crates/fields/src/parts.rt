@@ -29,48 +29,19 @@ const MINUS: u8 = b'-';
 // A number has at most so many bytes, with its minus and its leading zeros.
 const NUMBER_BYTES: usize = 11;
 
-// The sizes of the least and of the greatest number of 32 bits with a sign.
-const MOST_BELOW: u64 = 2_147_483_648;
-
-const MOST_ABOVE: u64 = 2_147_483_647;
-
 fn all_digits(bytes: &[u8]) -> bool
     ensures { result ≡ all_ascii_digits bytes.now }
 {
-    for b in bytes {
-        if !b.is_ascii_digit() {
-            return false;
-        }
-    }
-    true
+    bytes.iter().all(|b| b.is_ascii_digit())
 }
 
 // The number that the digits write, or the greatest of 64 bits where it is greater.
 fn value_of(digits: &[u8]) -> u64
     ensures { result ≡ min (value digits.now) (2 ^ 64 - 1) }
 {
-    let mut value: u64 = 0;
-    for b in digits {
-        let digit = u64::from(b.saturating_sub(b'0'));
-        value = value.saturating_mul(10).saturating_add(digit);
-    }
-    value
-}
-
-// A number of this size, below 0 where it has a minus; `None` where it does not fit 32 bits.
-fn with_sign(size: u64, negative: bool) -> Option<i32>
-    ensures { result ≡ fitted (if negative then neg_ℤ (pos size) else pos size) }
-{
-    if negative {
-        if size > MOST_BELOW {
-            return None;
-        }
-        return Some((0 - size as i64) as i32);
-    }
-    if size > MOST_ABOVE {
-        return None;
-    }
-    Some(size as i32)
+    digits.iter().fold(0, |value: u64, digit| {
+        value.saturating_mul(10).saturating_add(u64::from(digit.saturating_sub(b'0')))
+    })
 }
 
 impl<'a> Part<'a> {
@@ -102,10 +73,7 @@ impl<'a> Part<'a> {
         if self.bytes.len() > NUMBER_BYTES {
             return Err(FieldFault::OutOfRange(self.place));
         }
-        match u32::try_from(value_of(self.bytes)) {
-            Ok(number) => Ok(number),
-            Err(_) => Err(FieldFault::OutOfRange(self.place)),
-        }
+        u32::try_from(value_of(self.bytes)).map_err(|_| FieldFault::OutOfRange(self.place))
     }
 
     // A number from -2,147,483,648 to 2,147,483,647.
@@ -119,10 +87,9 @@ impl<'a> Part<'a> {
         if self.bytes.len() > NUMBER_BYTES {
             return Err(FieldFault::OutOfRange(self.place));
         }
-        match with_sign(value_of(digits), digits.len() < self.bytes.len()) {
-            Some(number) => Ok(number),
-            None => Err(FieldFault::OutOfRange(self.place)),
-        }
+        let size = i128::from(value_of(digits));
+        let number = if digits.len() < self.bytes.len() { -size } else { size };
+        i32::try_from(number).map_err(|_| FieldFault::OutOfRange(self.place))
     }
 
     // A digit for each variable of a board.
