@@ -1,5 +1,5 @@
 -- A text that is cut at the first byte of some kind. Assumes nothing.
-use Rattle.std.proofs.Common.{◌≡◌, ℕ, ◌+◌, ◌≤◌, eqb, List, length, sym, Bool, true, false, ltb, cond, Some, None, refl, ap, arith, ◌<◌, rules, ltb-true}
+use Rattle.std.proofs.Common.{◌≡◌, ℕ, ◌+◌, eqb, List, length, sym, arith}
 use Rattle.std.specs.Option.{unwrap_or}
 use Rattle.std.specs.List.{position, position_or_len, count_by}
 use Rattle.std.proofs.lemmas.List.Splits.{length-slice_split}

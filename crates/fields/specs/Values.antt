@@ -1,5 +1,5 @@
 -- Numbers as they are written: digits, with or without a minus. Assumes nothing.
-use Rattle.std.specs.Prelude.{ℕ, ◌+◌, ◌-◌, ◌*◌, Bool, false, cond, ◌&&◌, List, [], ◌∷◌, ℤ, pos, negsuc, neg_ℤ, Some, None, Option, ◌==◌, int_le, nat_le}
+use Rattle.std.specs.Prelude.{ℕ, ◌+◌, ◌-◌, ◌*◌, Bool, false, cond, ◌&&◌, List, [], ◌∷◌, ℤ, pos, negsuc, neg_ℤ, ◌==◌, int_le, nat_le}
 
 abbrev pub minus : ℕ
 minus = 45
@@ -34,7 +34,3 @@ natural_range n = nat_le n 4294967295
 
 abbrev pub integer_range : ℤ → Bool
 integer_range z = int_le (negsuc 2147483647) z && int_le z (pos 2147483647)
-
--- a whole number where it is in range
-abbrev pub fitted : ℤ → Option ℤ
-fitted z = cond (integer_range z) (Some z) None

@@ -1,12 +1,13 @@
 // A field of a line, and what it can hold: a number, a layout or a letter.
-ghost use Rattle.std.specs.Prelude.{◌≡◌, ◌-◌, ◌^◌, ◌<◌, min, length, pos, neg_ℤ, if◌then◌else◌, MatchResult};
+ghost use Rattle.std.specs.Prelude.{◌≡◌, ◌-◌, ◌^◌, ◌<◌, min, length, MatchResult, Some};
 ghost use Rattle.std.specs.Str.{all_ascii_digits};
 ghost use Rattle.fields.specs.declared.faults.FieldFault.TheVariants.{Empty};
-ghost use Rattle.fields.specs.Values.{unsigned, value, signed_value, fitted};
+ghost use Rattle.fields.specs.Values.{unsigned, value, signed_value};
 ghost use Rattle.fields.specs.Questions.{answered};
-ghost use Rattle.fields.specs.Forms.{asked, natural, integer, layout, kind, bytes_of, named_kind};
+ghost use Rattle.fields.specs.Forms.{asked, natural, integer, layout, kind, bytes_of, named_kind, letter};
 
 use crate::faults::{FieldFault, Place};
+use std::fmt;
 
 // The kinds of board: a total, a worst margin, or either of them below a weight.
 #[derive(Clone, Copy)]
@@ -15,6 +16,20 @@ pub enum BoardKind {
     Worst,
     TieredTotal,
     TieredWorst,
+}
+
+// A kind is written as its letter.
+impl fmt::Display for BoardKind {
+    ghost output = { λ k. Some (letter k) };
+
+    fn fmt<W: fmt::Write>(&self, f: &mut fmt::Formatter<W>) -> fmt::Result {
+        f.write_str(match self {
+            BoardKind::Total => "T",
+            BoardKind::Worst => "W",
+            BoardKind::TieredTotal => "H",
+            BoardKind::TieredWorst => "V",
+        })
+    }
 }
 
 // A part of a listing: the bytes of one field, where they stand, and the field's place.
@@ -40,7 +55,9 @@ fn value_of(digits: &[u8]) -> u64
     ensures { result ≡ min (value digits.now) (2 ^ 64 - 1) }
 {
     digits.iter().fold(0, |value: u64, digit| {
-        value.saturating_mul(10).saturating_add(u64::from(digit.saturating_sub(b'0')))
+        value
+            .saturating_mul(10)
+            .saturating_add(u64::from(digit.saturating_sub(b'0')))
     })
 }
 
@@ -88,7 +105,11 @@ impl<'a> Part<'a> {
             return Err(FieldFault::OutOfRange(self.place));
         }
         let size = i128::from(value_of(digits));
-        let number = if digits.len() < self.bytes.len() { -size } else { size };
+        let number = if digits.len() < self.bytes.len() {
+            -size
+        } else {
+            size
+        };
         i32::try_from(number).map_err(|_| FieldFault::OutOfRange(self.place))
     }
 
