@@ -2,6 +2,5 @@ pub mod CommandReading
 pub mod EntryReading
 pub mod LineReading
 pub mod ListingReading
-pub mod Pieces
 pub mod RoundTrip
 pub mod Splitting

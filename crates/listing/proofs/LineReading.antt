@@ -1,6 +1,7 @@
 -- A line is read: its word, its place, the number of its fields, and then the fields. Assumes nothing.
-use Rattle.std.proofs.Common.{◌≡◌, ℕ, suc, ◌+◌, ◌-◌, ◌^◌, ◌<◌, ◌≤◌, min, Bool, true, false, cond, not, eqb, leb, List, [], ◌∷◌, length, is_some, Some, None, Option, refl, ap, ◌∙◌, arith, eq-eqb, ne_eqb, leb-true, true-eqb, false-eqb}
-use Rattle.std.specs.Option.{option_map}
+use Rattle.std.proofs.Common.{◌≡◌, ℕ, zero, suc, Bor, get_or, sym, ◌+◌, ◌-◌, ◌^◌, ◌<◌, ◌≤◌, min, Bool, true, false, cond, not, eqb, leb, List, [], ◌∷◌, length, is_some, Some, None, Option, refl, ap, ◌∙◌, arith, eq-eqb, ne_eqb, leb-true, true-eqb, false-eqb}
+use Rattle.std.specs.Option.{option_map, unwrap_or}
+use Rattle.std.specs.List.{slice_get}
 use Rattle.fields.specs.declared.faults.FieldFault.{FieldFault}
 use Rattle.fields.specs.declared.faults.LineFault.{LineFault}
 use Rattle.fields.specs.declared.faults.LineFault.TheVariants.{TooLong, UnknownWord, Misplaced, FieldCount, Field}
@@ -8,7 +9,8 @@ use Rattle.fields.specs.declared.words.Call.{Call as CallWord}
 use Rattle.fields.specs.declared.words.Word.TheVariants.{Board, Call}
 use Rattle.fields.specs.Questions.{Question, first_no}
 use Rattle.fields.specs.Forms.{Form}
-use Rattle.fields.proofs.Cuts.{pieces_few}
+use Rattle.std.proofs.lemmas.List.Splits.{length-slice_split}
+use Rattle.std.proofs.lemmas.List.Sums.{count_by-le-length}
 use Rattle.listing.specs.Text.{comma, fields}
 use Rattle.listing.specs.Lines.{field_questions}
 use Rattle.listing.specs.Entries.{EntryForm}
@@ -78,10 +80,15 @@ module _ (number : ℕ) (line : List ℕ) where
 -- the number of fields that is compared fits, since the line is short
 module _ (number : ℕ) (line : List ℕ) (h : first_no (word_questions number line) ≡ None) (count n : ℕ) (e : count ≡ min n (2 ^ 64 - 1)) where
   few_fields : length (fields line) ≤ 401
-  few_fields = omega (arith, pieces_few comma line, word_short number line h)
+  few_fields = omega (arith, length-slice_split (λ b. eqb b comma) line, count_by-le-length (λ b. eqb b comma) line, word_short number line h)
 
   pub right_count : true ≡ eqb (length (fields line)) (count + 1) → (length (fields line) ≡ suc n) × (1 + n < 2 ^ 64)
   right_count t = let same = true-eqb _ _ t in let few = few_fields in omega arith
 
   pub wrong_count : false ≡ eqb (length (fields line)) (count + 1) → length (fields line) ≡ suc n → ⊥
   wrong_count t g = let few = few_fields in false-eqb _ _ t (omega arith)
+
+-- what is shown where nothing may be there
+pub shown_or : (r : Option (Bor (List ℕ))) (d : Bor (List ℕ)) → (unwrap_or r d).now ≡ unwrap_or (option_map (λ x. x.now) r) d.now
+shown_or None d = refl
+shown_or (Some x) d = refl

@@ -28,15 +28,14 @@ left s = lines s.rest.now
 -- the reader has read the first lines of this listing, and no others
 pub record Stands (text : List ℕ) (s : Reader) : Type 0 where
   pub rest : left s ≡ drop s.line (lines text)
-  pub few : s.line + length s.rest.now ≤ listing_limit
 
-abbrev pub NextLineBy : List (List ℕ) → List ℕ → Reader → Reader → Option LineText → Type 0
-NextLineBy [] text s s' r = (r ≡ None) × Stands text s'
-NextLineBy (l ∷ ls) text s s' r = options.MatchOption r ⊥ (λ x. (text_of x ≡ l) × (x.number ≡ s.line + 1)) × (Stands text s' × (s'.line ≡ s.line + 1))
+abbrev pub NextLineBy : List (List ℕ) → Reader → Reader → Option LineText → Type 0
+NextLineBy [] s s' r = (r ≡ None) × (left s' ≡ []) × (s'.line ≡ s.line)
+NextLineBy (l ∷ ls) s s' r = options.MatchOption r ⊥ (λ x. (text_of x ≡ l) × (x.number ≡ s.line + 1)) × (left s' ≡ ls) × (s'.line ≡ s.line + 1)
 
 -- the next line of the listing with its number, or none where all were read
-abbrev pub NextLine : List ℕ → Reader → Reader → Option LineText → Type 0
-NextLine text s s' r = NextLineBy (drop s.line (lines text)) text s s' r
+abbrev pub NextLine : Reader → Reader → Option LineText → Type 0
+NextLine s s' r = NextLineBy (left s) s s' r
 
 -- a line's fault inside the listing's
 abbrev pub in_listing : {A : Type 0} → Result A LineFault → Result (Option A) ListingFault
@@ -72,10 +71,10 @@ module _ {E : Type 0} (M : EntryForm E) where
       (λ o. (first_no (command_questions M number l) ≡ None) × (command_of M l ≡ option_map says o))
       (λ f. option_map Line (first_no (command_questions M number l)) ≡ Some f)
 
-  abbrev pub NextCommandBy : List (List ℕ) → List ℕ → Reader → Reader → Result (Option (Command E)) ListingFault → Type 0
-  NextCommandBy [] text s s' r = (r ≡ Ok None) × Stands text s'
-  NextCommandBy (l ∷ ls) text s s' r = LineReply (s.line + 1) l r × (Stands text s' × (s'.line ≡ s.line + 1))
+  abbrev pub NextCommandBy : List (List ℕ) → Reader → Reader → Result (Option (Command E)) ListingFault → Type 0
+  NextCommandBy [] s s' r = (r ≡ Ok None) × (left s' ≡ []) × (s'.line ≡ s.line)
+  NextCommandBy (l ∷ ls) s s' r = LineReply (s.line + 1) l r × (left s' ≡ ls) × (s'.line ≡ s.line + 1)
 
   -- the reply to the next line of the listing, or none where all were read
-  abbrev pub NextCommand : List ℕ → Reader → Reader → Result (Option (Command E)) ListingFault → Type 0
-  NextCommand text s s' r = NextCommandBy (drop s.line (lines text)) text s s' r
+  abbrev pub NextCommand : Reader → Reader → Result (Option (Command E)) ListingFault → Type 0
+  NextCommand s s' r = NextCommandBy (left s) s s' r

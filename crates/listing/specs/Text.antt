@@ -1,13 +1,11 @@
 -- The lines and fields of a listing, and the pieces of a text put together again. Assumes nothing.
 use Rattle.std.specs.Prelude.{◌≡◌, ℕ, ◌⊎◌, List, [], ◌∷◌, ◌++◌, ◌≢◌}
-use Rattle.std.specs.List.{AllByRecursion}
+use Rattle.std.specs.List.{AllByRecursion, join_with_byte}
 use Rattle.fields.specs.Text.{pieces}
 
 -- the pieces put together again
 abbrev pub parted_by : ℕ → List (List ℕ) → List ℕ
-parted_by cut [] = []
-parted_by cut (p ∷ []) = p
-parted_by cut (p ∷ q ∷ ps) = p ++ cut ∷ parted_by cut (q ∷ ps)
+parted_by cut ps = join_with_byte cut ps
 
 -- without a last piece that is empty
 abbrev pub ended : List (List ℕ) → List (List ℕ)

@@ -4,7 +4,6 @@ ghost use Rattle.fields.specs.Forms.{bytes_of};
 ghost use Rattle.listing.specs.Text.{fields, TextLaws};
 ghost use Rattle.listing.specs.Lines.{text_of, place_at};
 
-use fields::cutting::{head, tail};
 use fields::faults::Place;
 use fields::parts::Part;
 
@@ -33,12 +32,9 @@ impl<'a> Line<'a> {
         ensures bytes { bytes_of result ≡ slice_index_or (fields (text_of self.entry)) index [] }
         ensures place { index + 1 < 2 ^ 64 → result.place ≡ place_at self.entry.number index }
     {
-        let mut rest = self.text;
-        for _i in 0..index {
-            rest = tail(rest, COMMA);
-        }
+        let bytes = self.text.split(|b| *b == COMMA).nth(index).unwrap_or(&[]);
         Part {
-            bytes: head(rest, COMMA),
+            bytes,
             place: self.place(index),
         }
     }

@@ -1,6 +1,5 @@
 // Reads a listing line by line. The reader borrows the listing, and what it hands out are parts of it.
-ghost use Rattle.std.specs.Prelude.{ℕ, List};
-ghost use Rattle.listing.specs.Listings.{Stands, NextLine, Opened, NextCommand};
+ghost use Rattle.std.specs.Prelude.{◌+◌, ◌≤◌, length};
 
 use crate::commands::{Command, Opening};
 use crate::entries::EntryFields;
@@ -19,17 +18,20 @@ pub struct Reader<'a> {
     rest: &'a [u8],
     // how many lines were read
     line: usize,
+    ghost few: { line + length rest.now ≤ 65536 },
 }
 
 impl<'a> Reader<'a> {
+    ghost use Rattle.listing.specs.Listings.{NextLine, Opened, NextCommand};
+
     fn next_line(&mut self) -> Option<Line<'a>>
-        ensures { (text : List ℕ) → Stands text self.old → NextLine text self.old self.new result }
+        ensures { NextLine self.old self.new result }
     {
         if self.rest.is_empty() {
             return None;
         }
         let text = head(self.rest, LINE_FEED);
-        let number = self.line.saturating_add(1);
+        let number = self.line + 1;
         self.rest = tail(self.rest, LINE_FEED);
         self.line = number;
         Some(Line { text, number })
@@ -55,12 +57,11 @@ impl<'a> Reader<'a> {
 
     // Reads the next line, on a board whose kind takes these entries; `None` after the last line.
     pub fn command<E: EntryFields>(&mut self) -> Result<Option<Command<'a, E>>, ListingFault>
-        ensures { (text : List ℕ) → Stands text self.old → NextCommand E.EntryFields.form text self.old self.new result }
+        ensures { NextCommand E.EntryFields.form self.old self.new result }
     {
         let Some(line) = self.next_line() else {
             return Ok(None);
         };
-        let command = line.command()?;
-        Ok(Some(command))
+        Ok(Some(line.command()?))
     }
 }

@@ -33,10 +33,7 @@ impl<'a> Line<'a> {
         if self.text.len() > LINE_BYTES {
             return Err(LineFault::TooLong(self.number));
         }
-        match known_word(self.field(0).bytes) {
-            Some(word) => Ok(word),
-            None => Err(LineFault::UnknownWord(self.number)),
-        }
+        known_word(self.field(0).bytes).ok_or(LineFault::UnknownWord(self.number))
     }
 
     fn board(self) -> Result<Opening, FieldFault>

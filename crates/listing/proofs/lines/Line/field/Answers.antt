@@ -1,18 +1,17 @@
-use Rattle.std.proofs.Common.{◌≡◌, arith}
-use Rattle.listing.specs.Text.{comma}
-use Rattle.listing.proofs.Pieces.{left_start, left_more, left_end}
+use Rattle.std.proofs.Common.{◌≡◌, [], ap, ◌∙◌, refl, rules, tests}
+use Rattle.std.specs.Option.{option_map, unwrap_or}
+use Rattle.std.proofs.lemmas.Option.{unwrap_or-slice_get}
+use Rattle.std.specs.List.{slice_get}
+use Rattle.std.proofs.lemmas.Iterator.Consumers.{nth_from_yields_List}
+use Rattle.std.proofs.lemmas.Iterator.Splits.{YieldsList-from_slice_split}
+use Rattle.listing.specs.Text.{fields}
+use Rattle.listing.specs.Lines.{text_of}
+use Rattle.listing.proofs.LineReading.{shown_or}
 use Rattle.listing.proofs.lines.Line.field.Goals as goal
 
-pub loop-i-init : goal.loop-i-init
-loop-i-init c = left_start comma c.args.self.text.now
-
-pub loop-i-preserved : goal.loop-i-preserved
-loop-i-preserved c = left_more comma c.args.self.text.now c.loop-i._i c.loop-i.rest.now c.tail-rest.result.now c.loop-i.invariant c.tail-rest.ensures
-
-pub returns : goal.returns
-returns c =
-    let reached : c.loop-i._i ≡ c.args.index = omega arith in
-    record {
-      bytes = left_end comma c.args.self.text.now c.args.index c.loop-i.rest.now c.head.result.now (rw (← reached) c.loop-i.invariant) c.head.ensures;
-      place = c.place.ensures;
-    }
+pub returns-clause-bytes : goal.returns-clause-bytes
+returns-clause-bytes c =
+    let text = text_of c.args.self in
+    let nth : option_map (λ x. x.now) c.nth.result ≡ slice_get (fields text) c.args.index =
+        nth_from_yields_List _ _ c.args.index c.nth.ensures.ran (YieldsList-from_slice_split _ _ text c.split.ensures.rest c.split.ensures.done c.split.ensures.closure (λ x r q k. search (rules, tests))) in
+    ap (λ b. b.now) c.unwrap_or-bytes.ensures ∙ shown_or c.nth.result _ ∙ ap (λ o. unwrap_or o []) nth ∙ unwrap_or-slice_get (fields text) c.args.index []
