@@ -8,7 +8,8 @@ use Rattle.fields.specs.Questions.{first_no}
 use Rattle.fields.specs.Forms.{Form, natural, layout, bytes_of}
 use Rattle.listing.specs.declared.commands.Command.{Command}
 use Rattle.listing.specs.declared.commands.Command.TheVariants as commands
-use Rattle.listing.specs.declared.entries.ByValue.{ByValue}
+use Rattle.score.specs.declared.values.Two.{Two}
+use Rattle.score.specs.declared.values.Four.{Four}
 use Rattle.listing.specs.declared.lines.Line.{Line}
 use Rattle.listing.specs.Text.{fields}
 use Rattle.listing.specs.Lines.{text_of, field_questions}
@@ -16,20 +17,21 @@ use Rattle.listing.specs.Entries.{EntryForm, by_value_form}
 
 -- a command, with its layout as a list of bytes
 pub data Said (E : Type 0) : Type 0 where
-  one : ℕ → ByValue E → Said E
-  pair : ℕ → ℕ → ByValue (ByValue E) → Said E
+  one : ℕ → Two E → Said E
+  pair : ℕ → ℕ → Two (Two E) → Said E
   pin : ℕ → ℕ → Said E
   free : ℕ → Said E
   back : Said E
   score : List ℕ → Said E
 
-abbrev pub by_value : {E : Type 0} → E → E → ByValue E
-by_value x y = record { zero = x; one = y }
+-- four by the values of the first variable
+abbrev pub two_of : {E : Type 0} → Four E → Two (Two E)
+two_of f = record { zero = record { zero = f.at00; one = f.at01 }; one = record { zero = f.at10; one = f.at11 } }
 
 -- what a command in the program says
 abbrev pub says : {E : Type 0} → Command E → Said E
-says (commands.One v x y) = one v (by_value x y)
-says (commands.Pair a b x y z w) = pair a b (by_value (by_value x y) (by_value z w))
+says (commands.One v es) = one v es
+says (commands.Pair a b f) = pair a b (two_of f)
 says (commands.Pin v x) = pin v x
 says (commands.Free v) = free v
 says commands.Back = back

@@ -8,7 +8,7 @@ use Rattle.fields.specs.declared.faults.FieldFault.{FieldFault}
 use Rattle.fields.specs.Questions.{answered}
 use Rattle.fields.specs.Values.{value, signed_value, natural_range, integer_range}
 use Rattle.fields.specs.Forms.{Form, natural, integer}
-use Rattle.listing.specs.declared.entries.ByValue.{ByValue}
+use Rattle.score.specs.declared.values.Two.{Two}
 use Rattle.listing.specs.Lines.{field_questions}
 
 pub record EntryForm (E : Type 0) : Type 0 where
@@ -52,7 +52,7 @@ weighted_form M = record {
 }
 
 -- what is for value 0, and then what is for value 1
-abbrev pub by_value_form : {E : Type 0} → EntryForm E → EntryForm (ByValue E)
+abbrev pub by_value_form : {E : Type 0} → EntryForm E → EntryForm (Two E)
 by_value_form M = record {
   forms = M.forms ++ M.forms;
   spelled = λ index fs. record { zero = M.spelled index fs; one = M.spelled (index + length M.forms) fs };

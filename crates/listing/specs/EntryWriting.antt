@@ -7,7 +7,7 @@ use Rattle.std.proofs.lemmas.Bool.{and_parts}
 use Rattle.fields.specs.Values.{value, signed_value, natural_range, integer_range}
 use Rattle.fields.specs.Questions.{first_no}
 use Rattle.fields.specs.Forms.{Form, natural, integer, asked}
-use Rattle.listing.specs.declared.entries.ByValue.{ByValue}
+use Rattle.score.specs.declared.values.Two.{Two}
 use Rattle.listing.specs.Text.{comma, Without}
 use Rattle.listing.specs.Lines.{place_at, field_questions}
 use Rattle.listing.specs.Entries.{EntryForm, access_form, slack_form, weighted_form, by_value_form}
@@ -72,7 +72,7 @@ module _ {E : Type 0} (M : EntryForm E) (back : ReadsBack M) where
   }
 
   -- the fields of two entries after some others, split before the second
-  module _ (e : ByValue E) (front more : List (List ℕ)) where
+  module _ (e : Two E) (front more : List (List ℕ)) where
     abbrev first_part : List (List ℕ)
     first_part = M.written e.zero
 

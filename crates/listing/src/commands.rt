@@ -3,11 +3,12 @@ ghost use Rattle.std.specs.Prelude.{◌≡◌, ◌-◌, ◌^◌, min, length};
 ghost use Rattle.fields.specs.declared.words.Call.TheVariants.{One, Pair, Pin, Free, Score};
 ghost use Rattle.listing.specs.Commands.{call_forms, CallReply};
 
-use crate::entries::{ByValue, EntryFields};
+use crate::entries::EntryFields;
 use crate::lines::Line;
 use fields::faults::FieldFault;
 use fields::parts::{BoardKind, Part};
 use fields::words::Call;
+use score::values::{Four, Two};
 
 // The first line: how many variables the board has, and its kind.
 #[derive(Clone, Copy)]
@@ -18,20 +19,14 @@ pub struct Opening {
 
 #[derive(Drop)]
 pub enum Command<'a, E> {
-    // an entry for each value of a variable
     One {
         variable: u32,
-        zero: E,
-        one: E,
+        entries: Two<E>,
     },
-    // an entry for each values of two variables, the first one's value first
     Pair {
         first: u32,
         second: u32,
-        e00: E,
-        e01: E,
-        e10: E,
-        e11: E,
+        entries: Four<E>,
     },
     Pin {
         variable: u32,
@@ -52,8 +47,8 @@ pub(crate) fn field_count<E: EntryFields>(call: Call) -> usize
     ensures { result ≡ min (length (call_forms E.EntryFields.form call)) (2 ^ 64 - 1) }
 {
     match call {
-        Call::One => ByValue::<E>::field_count().saturating_add(1),
-        Call::Pair => ByValue::<ByValue<E>>::field_count().saturating_add(2),
+        Call::One => Two::<E>::field_count().saturating_add(1),
+        Call::Pair => Two::<Two<E>>::field_count().saturating_add(2),
         Call::Pin => 2,
         Call::Free => 1,
         Call::Back => 0,
@@ -65,12 +60,8 @@ fn read_one<'a, E: EntryFields>(line: Line<'a>) -> Result<Command<'a, E>, FieldF
     ensures { CallReply E.EntryFields.form One line.entry result }
 {
     let variable = line.field(1).natural()?;
-    let entries = ByValue::<E>::read(line, 2)?;
-    Ok(Command::One {
-        variable,
-        zero: entries.zero,
-        one: entries.one,
-    })
+    let entries = Two::read(line, 2)?;
+    Ok(Command::One { variable, entries })
 }
 
 fn read_pair<'a, E: EntryFields>(line: Line<'a>) -> Result<Command<'a, E>, FieldFault>
@@ -78,14 +69,11 @@ fn read_pair<'a, E: EntryFields>(line: Line<'a>) -> Result<Command<'a, E>, Field
 {
     let first = line.field(1).natural()?;
     let second = line.field(2).natural()?;
-    let entries = ByValue::<ByValue<E>>::read(line, 3)?;
+    let entries = Two::<Two<E>>::read(line, 3)?;
     Ok(Command::Pair {
         first,
         second,
-        e00: entries.zero.zero,
-        e01: entries.zero.one,
-        e10: entries.one.zero,
-        e11: entries.one.one,
+        entries: Four::from(entries),
     })
 }
 

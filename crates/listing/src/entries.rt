@@ -11,6 +11,7 @@ use fields::faults::FieldFault;
 use score::margins::Slack;
 use score::tiers::Weighted;
 use score::totals::Access;
+use score::values::Two;
 
 pub trait EntryFields: Copy {
     // what the fields hold, the entry that they spell, and how an entry is written
@@ -86,14 +87,7 @@ impl<E: EntryFields> EntryFields for Weighted<E> {
     }
 }
 
-// Something for each value of a variable.
-#[derive(Clone, Copy)]
-pub struct ByValue<E> {
-    pub zero: E,
-    pub one: E,
-}
-
-impl<E: EntryFields> EntryFields for ByValue<E> {
+impl<E: EntryFields> EntryFields for Two<E> {
     ghost form = { by_value_form E.EntryFields.form };
 
     ghost back = { by_value_back E.EntryFields.form E.EntryFields.back };
@@ -102,9 +96,9 @@ impl<E: EntryFields> EntryFields for ByValue<E> {
         E::field_count().saturating_mul(2)
     }
 
-    fn read(line: Line<'_>, index: usize) -> Result<ByValue<E>, FieldFault> {
+    fn read(line: Line<'_>, index: usize) -> Result<Two<E>, FieldFault> {
         let zero = E::read(line, index)?;
         let one = E::read(line, onward(index, E::field_count()))?;
-        Ok(ByValue { zero, one })
+        Ok(Two { zero, one })
     }
 }

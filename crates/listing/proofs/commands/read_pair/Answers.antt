@@ -1,10 +1,10 @@
-use Rattle.std.proofs.Common.{◌∷◌, refl, ◌∙◌, arith}
+use Rattle.std.proofs.Common.{◌∷◌, refl, ap, ◌∙◌, arith}
 use Rattle.fields.specs.Values.{value}
 use Rattle.fields.specs.Forms.{natural}
 use Rattle.listing.specs.Text.{fields}
 use Rattle.listing.specs.Lines.{text_of}
 use Rattle.listing.specs.Entries.{by_value_form}
-use Rattle.listing.specs.Commands.{pair}
+use Rattle.listing.specs.Commands.{two_of, pair}
 use Rattle.listing.specs.Asked.{replied_ok, replied_err}
 use Rattle.listing.proofs.CommandReading.{exits, no_at, yes_at}
 use Rattle.listing.proofs.EntryReading.{is_field, read_is}
@@ -40,7 +40,8 @@ returns g c small =
     let second = is_field c.args.line.number 2 2 (fields (text_of c.args.line)) _ _ c.field-2.ensures.bytes c.field-2.ensures.place refl (omega arith) in
     let a = read_is natural _ _ _ _ _ first value _ c.in_ok-first.ensures in
     let b = read_is natural _ _ _ _ _ second value _ c.in_ok-second.ensures in
-    let es = replied_ok _ _ _ (c.in_ok-entries.ensures (omega arith)) in (
+    let es = replied_ok _ _ _ (c.in_ok-entries.ensures (omega arith)) in
+    let four = ap two_of c.from.ensures ∙ es.1 in (
       yes_at natural _ _ (natural ∷ forms) _ _ _ _ first _ c.in_ok-first.ensures ∙ yes_at natural _ _ forms _ _ _ _ second _ c.in_ok-second.ensures ∙ es.0,
-      λ i. pair (a i) (b i) (es.1 i),
+      λ i. pair (a i) (b i) (four i),
     )

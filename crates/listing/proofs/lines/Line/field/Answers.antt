@@ -13,5 +13,5 @@ pub returns-clause-bytes : goal.returns-clause-bytes
 returns-clause-bytes c =
     let text = text_of c.args.self in
     let nth : option_map (λ x. x.now) c.nth.result ≡ slice_get (fields text) c.args.index =
-        nth_from_yields_List _ _ c.args.index c.nth.ensures.ran (YieldsList-from_slice_split _ _ text c.split.ensures.rest c.split.ensures.done c.split.ensures.closure (λ x r q k. search (rules, tests))) in
+    nth_from_yields_List _ _ c.args.index c.nth.ensures.ran (YieldsList-from_slice_split _ _ text c.split.ensures.rest c.split.ensures.done c.split.ensures.closure (λ x r q k. search (rules, tests))) in
     ap (λ b. b.now) c.unwrap_or-bytes.ensures ∙ shown_or c.nth.result _ ∙ ap (λ o. unwrap_or o []) nth ∙ unwrap_or-slice_get (fields text) c.args.index []

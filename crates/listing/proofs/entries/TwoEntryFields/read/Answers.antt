@@ -3,7 +3,7 @@ use Rattle.listing.specs.Text.{fields}
 use Rattle.listing.specs.Lines.{text_of}
 use Rattle.listing.specs.Entries.{entry_reply}
 use Rattle.listing.proofs.EntryReading.{passed_on, zero_no, one_no, both_yes}
-use Rattle.listing.proofs.entries.ByValueEntryFields.read.Goals as goal
+use Rattle.listing.proofs.entries.TwoEntryFields.read.Goals as goal
 
 pub returns-in_err-zero : goal.returns-in_err-zero
 returns-in_err-zero g c small =
