@@ -1,5 +1,5 @@
 -- What a listing means, line by line. Assumes nothing.
-use Rattle.std.specs.Prelude.{◌≡◌, ℕ, ◌+◌, ◌≤◌, cond, List, [], ◌∷◌, length, drop, IfSome, IfOk, Some, None, Ok, Err, Option, Result, nat_le}
+use Rattle.std.specs.Prelude.{◌≡◌, ℕ, ◌+◌, cond, List, [], ◌∷◌, length, drop, IfSome, IfOk, Some, None, Ok, Err, Option, Result, nat_le}
 use Rattle.std.specs.Option.{option_map}
 use Rattle.std.specs.Option as options
 use Rattle.std.specs.Result as results

@@ -10,142 +10,126 @@ use listing::reader::Reader;
 use score::margins::Slack;
 use score::tiers::Weighted;
 use score::totals::Access;
+use score::values::{Four, Two};
 use std::alloc::{AllocError, Global};
-use std::io;
+use std::{fmt, io, iter};
 
 // No listing has more lines.
 const MOST_LINES: usize = 65_536;
 
-// An entry as a listing has it.
-trait Shown {
-    fn shown(&self, heap: Global) -> Result<String, AllocError>;
-}
+// A part of a command, to be printed as a listing has it.
+#[derive(Drop)]
+struct Shown<T>(T);
 
-impl Shown for Access {
-    fn shown(&self, heap: Global) -> Result<String, AllocError> {
-        let hits = self.hits;
-        let cycles = self.cycles;
-        format!(in heap; "{hits},{cycles}")
+impl fmt::Display for Shown<Access> {
+    fn fmt<W: fmt::Write>(&self, f: &mut fmt::Formatter<W>) -> fmt::Result {
+        write!(f, "{},{}", self.0.hits, self.0.cycles)
     }
 }
 
-impl Shown for Slack {
-    fn shown(&self, heap: Global) -> Result<String, AllocError> {
-        let margin = self.margin;
-        format!(in heap; "{margin}")
+impl fmt::Display for Shown<Slack> {
+    fn fmt<W: fmt::Write>(&self, f: &mut fmt::Formatter<W>) -> fmt::Result {
+        write!(f, "{}", self.0.margin)
     }
 }
 
-impl<E: Shown> Shown for Weighted<E> {
-    fn shown(&self, heap: Global) -> Result<String, AllocError> {
-        let weight = self.weight;
-        let second = self.second.shown(heap)?;
-        format!(in heap; "{weight},{second}")
+impl<E: Copy> fmt::Display for Shown<Weighted<E>>
+where
+    Shown<E>: fmt::Display,
+{
+    fn fmt<W: fmt::Write>(&self, f: &mut fmt::Formatter<W>) -> fmt::Result {
+        write!(f, "{},{}", self.0.weight, Shown(self.0.second))
     }
 }
 
-fn digits(heap: Global, layout: Part<'_>) -> Result<String, AllocError> {
-    let mut out = String::new(heap);
-    for b in layout.bytes {
-        out.push(*b as char)?;
+impl<E: Copy> fmt::Display for Shown<Two<E>>
+where
+    Shown<E>: fmt::Display,
+{
+    fn fmt<W: fmt::Write>(&self, f: &mut fmt::Formatter<W>) -> fmt::Result {
+        write!(f, "{},{}", Shown(self.0.zero), Shown(self.0.one))
     }
-    Ok(out)
 }
 
-fn pair_shown<E: EntryFields + Shown>(heap: Global, zero: E, one: E) -> Result<String, AllocError> {
-    let zero = zero.shown(heap)?;
-    let one = one.shown(heap)?;
-    format!(in heap; "{zero},{one}")
+impl<E: Copy> fmt::Display for Shown<Four<E>>
+where
+    Shown<E>: fmt::Display,
+{
+    fn fmt<W: fmt::Write>(&self, f: &mut fmt::Formatter<W>) -> fmt::Result {
+        let Four {
+            at00,
+            at01,
+            at10,
+            at11,
+        } = self.0;
+        write!(
+            f,
+            "{},{},{},{}",
+            Shown(at00),
+            Shown(at01),
+            Shown(at10),
+            Shown(at11)
+        )
+    }
 }
 
-fn command_shown<E: EntryFields + Shown>(
-    heap: Global,
-    command: Command<'_, E>,
-) -> Result<String, AllocError> {
-    match command {
-        Command::One {
-            variable,
-            zero,
-            one,
-        } => {
-            let entries = pair_shown(heap, zero, one)?;
-            format!(in heap; "one,{variable},{entries}")
+// A layout, which has digits only.
+impl fmt::Display for Shown<Part<'_>> {
+    fn fmt<W: fmt::Write>(&self, f: &mut fmt::Formatter<W>) -> fmt::Result {
+        f.write_str(str::from_utf8(self.0.bytes).map_err(|_| fmt::Error)?)
+    }
+}
+
+impl<E: Copy> fmt::Display for Shown<Command<'_, E>>
+where
+    Shown<E>: fmt::Display,
+{
+    fn fmt<W: fmt::Write>(&self, f: &mut fmt::Formatter<W>) -> fmt::Result {
+        match &self.0 {
+            Command::One { variable, entries } => write!(f, "one,{variable},{}", Shown(*entries)),
+            Command::Pair {
+                first,
+                second,
+                entries,
+            } => write!(f, "pair,{first},{second},{}", Shown(*entries)),
+            Command::Pin { variable, value } => write!(f, "pin,{variable},{value}"),
+            Command::Free { variable } => write!(f, "free,{variable}"),
+            Command::Back => write!(f, "back"),
+            Command::Score { layout } => write!(f, "score,{}", Shown(*layout)),
         }
-        Command::Pair {
-            first,
-            second,
-            e00,
-            e01,
-            e10,
-            e11,
-        } => {
-            let zero = pair_shown(heap, e00, e01)?;
-            let one = pair_shown(heap, e10, e11)?;
-            format!(in heap; "pair,{first},{second},{zero},{one}")
-        }
-        Command::Pin { variable, value } => format!(in heap; "pin,{variable},{value}"),
-        Command::Free { variable } => format!(in heap; "free,{variable}"),
-        Command::Back => format!(in heap; "back"),
-        Command::Score { layout } => {
-            let layout = digits(heap, layout)?;
-            format!(in heap; "score,{layout}")
-        }
     }
 }
 
-fn opening_shown(heap: Global, opening: Opening) -> Result<String, AllocError> {
-    let variables = opening.variables;
-    let kind = match opening.kind {
-        BoardKind::Total => "T",
-        BoardKind::Worst => "W",
-        BoardKind::TieredTotal => "H",
-        BoardKind::TieredWorst => "V",
-    };
-    format!(in heap; "board,{variables},{kind}")
+impl fmt::Display for Shown<Opening> {
+    fn fmt<W: fmt::Write>(&self, f: &mut fmt::Formatter<W>) -> fmt::Result {
+        write!(f, "board,{},{}", self.0.variables, self.0.kind)
+    }
 }
 
-fn add_commands<E: EntryFields + Shown>(
-    heap: Global,
-    reader: &mut Reader<'_>,
-    out: &mut String,
-) -> Result<(), AllocError> {
-    for _ in 0..MOST_LINES {
-        let reply = match reader.command::<E>() {
-            Ok(None) => return Ok(()),
-            Ok(Some(command)) => command_shown(heap, command)?,
-            Err(fault) => {
-                let bad = fault.reply();
-                format!(in heap; "{bad}")?
-            }
-        };
-        out.push_str(" / ")?;
-        out.push_str(reply.as_str())?;
+fn add_commands<E: EntryFields>(reader: &mut Reader<'_>, out: &mut String) -> Result<(), AllocError>
+where
+    Shown<E>: fmt::Display,
+{
+    for reply in iter::from_fn(|| reader.command::<E>().transpose()).take(MOST_LINES) {
+        match reply {
+            Ok(command) => write!(out, " / {}", Shown(command))?,
+            Err(fault) => write!(out, " / {}", fault.reply())?,
+        }
     }
     Ok(())
 }
 
 fn replies(heap: Global, text: &[u8]) -> Result<String, AllocError> {
     match Reader::open(text) {
-        Err(fault) => {
-            let bad = fault.reply();
-            format!(in heap; "{bad}")
-        }
+        Err(fault) => format!(in heap; "{}", fault.reply()),
         Ok(None) => format!(in heap; "nothing"),
         Ok(Some((opening, mut reader))) => {
-            let mut out = opening_shown(heap, opening)?;
+            let mut out = format!(in heap; "{}", Shown(opening))?;
             match opening.kind {
-                BoardKind::Total => add_commands::<Access>(heap, &mut reader, &mut out)?,
-                BoardKind::Worst => add_commands::<Slack>(heap, &mut reader, &mut out)?,
-                BoardKind::TieredTotal => add_commands::<Weighted<Access>>(
-                    heap,
-                    &mut reader,
-                    &mut out,
-                )?,
-                BoardKind::TieredWorst => add_commands::<Weighted<Slack>>(
-                    heap,
-                    &mut reader,
-                    &mut out,
-                )?,
+                BoardKind::Total => add_commands::<Access>(&mut reader, &mut out)?,
+                BoardKind::Worst => add_commands::<Slack>(&mut reader, &mut out)?,
+                BoardKind::TieredTotal => add_commands::<Weighted<Access>>(&mut reader, &mut out)?,
+                BoardKind::TieredWorst => add_commands::<Weighted<Slack>>(&mut reader, &mut out)?,
             }
             Ok(out)
         }
@@ -206,9 +190,7 @@ fn add_byte(place: Place, b: u8, out: &mut Vec<u8>) -> Result<Place, AllocError>
             Ok(Place::Count(n.saturating_mul(10).saturating_add(decimal(b))))
         }
         Place::Repeat(n) => {
-            for _ in 0..n {
-                out.push(b)?;
-            }
+            out.extend(iter::repeat_n(b, n))?;
             Ok(Place::Plain)
         }
     }
@@ -217,8 +199,8 @@ fn add_byte(place: Place, b: u8, out: &mut Vec<u8>) -> Result<Place, AllocError>
 fn unescaped(heap: Global, line: &str) -> Result<Vec<u8>, AllocError> {
     let mut out = Vec::new(heap);
     let mut place = Place::Plain;
-    for b in line.as_bytes() {
-        place = add_byte(place, *b, &mut out)?;
+    for b in line.bytes() {
+        place = add_byte(place, b, &mut out)?;
     }
     Ok(out)
 }

@@ -1,6 +1,5 @@
 use Rattle.std.proofs.Common.{◌<◌, length, refl, arith, true-eqb, false-eqb}
-use Rattle.listing.specs.Text.{line_feed}
-use Rattle.listing.proofs.ListingReading.{past_shorter, next_none, next_some}
+use Rattle.listing.proofs.ListingReading.{next_none, next_some}
 use Rattle.listing.proofs.reader.Reader.next_line.Goals as goal
 
 pub returns-then-is_empty : goal.returns-then-is_empty
