@@ -1,66 +1,89 @@
 -- An entry is read field by field. Assumes nothing.
-use Rattle.std.proofs.Common.{◌≡◌, ℕ, ◌+◌, ◌^◌, ◌<◌, List, [], ◌∷◌, ◌++◌, length, get_or, ℤ, IsErrAnd, Ok, Err, Result, sym, ap, ◌∙◌, arith}
+use Rattle.std.proofs.Common.{◌≡◌, ℕ, zero, suc, ◌+◌, List, [], ◌∷◌, ◌++◌, length, get_or, drop, IsErrAnd, Some, Ok, Err, Result, sym, ap, ◌∙◌, refl, subst, arith, MatchResult, length-append}
+use Rattle.std.proofs.lemmas.List.{drop-drop}
+use Rattle.std.proofs.lemmas.Grind.{get_or_after_one}
 use Rattle.std.proofs.lemmas.Result.{err_from_is_err_and}
 use Rattle.fields.specs.declared.faults.Place.{Place}
 use Rattle.fields.specs.declared.faults.FieldFault.{FieldFault}
-use Rattle.fields.specs.Questions.{first_no, replied, answered}
-use Rattle.fields.specs.Values.{signed_value}
-use Rattle.fields.specs.Forms.{Form, integer, asked}
-use Rattle.listing.specs.Lines.{place_at, field_questions}
-use Rattle.listing.specs.Entries.{EntryForm, entry_reply, weighted_form, by_value_form}
+use Rattle.fields.specs.declared.parts.Part.{Part}
+use Rattle.fields.specs.Questions.{Question, first_no, replied, answered}
+use Rattle.fields.specs.Forms.{Form, asked, bytes_of}
+use Rattle.listing.specs.declared.lines.Cursor.{Cursor}
+use Rattle.listing.specs.Lines.{next_place, place_after, questions_from, fields_left, Passed, Took}
+use Rattle.listing.specs.Entries.{EntryForm, entry_reply, by_value_form}
 use Rattle.listing.specs.Asked.{replied_ok, replied_err, first_after, first_among, field_yes, field_no, questions_append}
 
 -- what is passed on by `?` with the fault unchanged
 pub passed_on : {A F : Type 0} (r : Result A F) (f : F) (wanted : Result A F) → IsErrAnd r (λ g. g ≡ f) → Err f ≡ wanted → r ≡ wanted
 passed_on r f wanted h e = let p = err_from_is_err_and r h in p.1 ∙ ap Err p.2 ∙ e
 
--- a part is the field of a line with this index
-pub record IsField (line i : ℕ) (fs : List (List ℕ)) (place : Place) (bytes : List ℕ) : Type 0 where
-  pub bytes_are : bytes ≡ get_or fs i []
-  pub place_is : place ≡ place_at line i
+-- the questions to the fields that a cursor has left
+abbrev pub asked_at : Cursor → List Form → List (Question FieldFault)
+asked_at c forms = questions_from c.place forms (fields_left c)
 
-pub is_field : (line i j : ℕ) (fs : List (List ℕ)) (place : Place) (bytes : List ℕ) → bytes ≡ get_or fs j [] → (j + 1 < 2 ^ 64 → place ≡ place_at line j) → j ≡ i → i + 1 < 2 ^ 64 → IsField line i fs place bytes
-is_field line i j fs place bytes b p e small = record { bytes_are = b ∙ ap (λ k. get_or fs k []) e; place_is = p (omega arith) ∙ ap (place_at line) e }
+-- a field that a cursor handed out
+module _ (c c' : Cursor) (part : Part) (took : Took c part c') (form : Form) where
+  asked_so : asked form part.place (bytes_of part) ≡ asked form c.place (get_or (fields_left c) 0 [])
+  asked_so = ap (asked form part.place) took.bytes_are ∙ ap (λ p. asked form p (get_or (fields_left c) 0 [])) took.place_is
 
-module _ {A V : Type 0} (form : Form) (line i : ℕ) (forms : List Form) (fs : List (List ℕ)) (w : A) (v : V) (place : Place) (bytes : List ℕ) (part : IsField line i fs place bytes) where
-  pub read_no : (f : FieldFault) → Err f ≡ answered (asked form place bytes) v → Err f ≡ answered (field_questions line i (form ∷ forms) fs) w
-  read_no f e = ap (λ o. replied o w) (sym (field_no form line i forms fs place bytes f part.bytes_are part.place_is (replied_err _ f v e)))
+  module _ {V : Type 0} (v : V) (forms : List Form) where
+    pub no_at : (f : FieldFault) → Err f ≡ answered (asked form part.place (bytes_of part)) v → first_no (asked_at c (form ∷ forms)) ≡ Some f
+    no_at f e = field_no form c.place forms (fields_left c) f (ap first_no (sym asked_so) ∙ replied_err _ f v e)
 
-  pub read_yes : (x : V) → Ok x ≡ answered (asked form place bytes) v → answered (field_questions line (i + 1) forms fs) w ≡ answered (field_questions line i (form ∷ forms) fs) w
-  read_yes x e = ap (λ o. replied o w) (sym (field_yes form line i forms fs place bytes part.bytes_are part.place_is (replied_ok _ x v e).0))
+    pub yes_at : (x : V) → Ok x ≡ answered (asked form part.place (bytes_of part)) v → first_no (asked_at c (form ∷ forms)) ≡ first_no (asked_at c' forms)
+    yes_at x e =
+        field_yes form c.place forms (fields_left c) (ap first_no (sym asked_so) ∙ (replied_ok _ x v e).0)
+        ∙ ap (λ p. first_no (questions_from p forms (drop 1 (fields_left c)))) (sym took.passed.place_is) ∙ ap (λ l. first_no (questions_from c'.place forms l)) (sym took.passed.left_is)
 
--- the value that is read
-pub read_is : {V : Type 0} (form : Form) (line i : ℕ) (fs : List (List ℕ)) (place : Place) (bytes : List ℕ) (part : IsField line i fs place bytes) (meant : List ℕ → V) (x : V) → Ok x ≡ answered (asked form place bytes) (meant bytes) → x ≡ meant (get_or fs i [])
-read_is form line i fs place bytes part meant x e = (replied_ok _ x (meant bytes) e).1 ∙ ap meant part.bytes_are
+    module _ {A : Type 0} (w : A) where
+      pub read_no : (f : FieldFault) → Err f ≡ answered (asked form part.place (bytes_of part)) v → Err f ≡ answered (asked_at c (form ∷ forms)) w
+      read_no f e = ap (λ o. replied o w) (sym (no_at f e))
 
--- a weight, and then an entry
-module _ {E : Type 0} (M : EntryForm E) (line i : ℕ) (fs : List (List ℕ)) (place : Place) (bytes : List ℕ) (x : ℤ) (r : Result E FieldFault) (part : IsField line i fs place bytes) (weight : Ok x ≡ answered (asked integer place bytes) (signed_value bytes)) where
-  pub second_no : (f : FieldFault) → r ≡ entry_reply M line (i + 1) fs → Err f ≡ r → Err f ≡ entry_reply (weighted_form M) line i fs
-  second_no f e h = ap (λ o. replied o ((weighted_form M).spelled i fs)) (sym (replied_err _ f _ (h ∙ e))) ∙ read_yes integer line i M.forms fs ((weighted_form M).spelled i fs) (signed_value bytes) place bytes part x weight
+      pub read_yes : (x : V) → Ok x ≡ answered (asked form part.place (bytes_of part)) v → answered (asked_at c' forms) w ≡ answered (asked_at c (form ∷ forms)) w
+      read_yes x e = ap (λ o. replied o w) (sym (yes_at x e))
 
-  pub second_yes : (y : E) → r ≡ entry_reply M line (i + 1) fs → Ok y ≡ r → Ok (record { weight = x; second = y }) ≡ entry_reply (weighted_form M) line i fs
-  second_yes y e h =
-      let w = read_is integer line i fs place bytes part signed_value x weight in
-      let s = replied_ok _ y _ (h ∙ e) in
-      ap Ok (λ k. record { weight = w k; second = s.1 k }) ∙ ap (λ o. replied o ((weighted_form M).spelled i fs)) (sym s.0) ∙ read_yes integer line i M.forms fs ((weighted_form M).spelled i fs) (signed_value bytes) place bytes part x weight
+  -- the value that is read
+  pub read_is : {V : Type 0} (meant : List ℕ → V) (x : V) → Ok x ≡ answered (asked form part.place (bytes_of part)) (meant (bytes_of part)) → x ≡ meant (get_or (fields_left c) 0 [])
+  read_is meant x e = (replied_ok _ x (meant (bytes_of part)) e).1 ∙ ap meant took.bytes_are
+
+-- a field further on
+pub second_is : (c c' : Cursor) → Passed 1 c c' → get_or (fields_left c') 0 [] ≡ get_or (fields_left c) 1 []
+second_is c c' passed = ap (λ l. get_or l 0 []) passed.left_is ∙ get_or_after_one (fields_left c) 0 []
+
+place_then : (m n : ℕ) (p : Place) → place_after n (place_after m p) ≡ place_after (m + n) p
+place_then zero n p = ap (λ k. place_after k p) (let z : n ≡ 0 + n = omega arith in z)
+place_then (suc m) n p = place_then m n (next_place p) ∙ ap (λ k. place_after k p) (let z : suc (m + n) ≡ suc m + n = omega arith in z)
+
+pub passed_both : (m n : ℕ) (c c' c'' : Cursor) → Passed m c c' → Passed n c' c'' → Passed (m + n) c c''
+passed_both m n c c' c'' a b = record {
+  left_is = b.left_is ∙ ap (drop n) a.left_is ∙ drop-drop n m (fields_left c);
+  place_is = b.place_is ∙ ap (place_after n) a.place_is ∙ place_then m n c.place;
+}
 
 -- two entries, one after the other
-module _ {E : Type 0} (M : EntryForm E) (line i : ℕ) (fs : List (List ℕ)) where
-  both_questions : first_no (field_questions line i (M.forms ++ M.forms) fs) ≡ first_no (field_questions line i M.forms fs ++ field_questions line (i + length M.forms) M.forms fs)
-  both_questions = ap first_no (questions_append line i M.forms M.forms fs)
+module _ {E : Type 0} (M : EntryForm E) (c c' : Cursor) where
+  both_questions : first_no (asked_at c (M.forms ++ M.forms)) ≡ first_no (asked_at c M.forms ++ questions_from (place_after (length M.forms) c.place) M.forms (drop (length M.forms) (fields_left c)))
+  both_questions = ap first_no (questions_append c.place M.forms M.forms (fields_left c))
 
-  pub zero_no : (f : FieldFault) → Err f ≡ entry_reply M line i fs → Err f ≡ entry_reply (by_value_form M) line i fs
-  zero_no f e = ap (λ o. replied o ((by_value_form M).spelled i fs)) (sym (both_questions ∙ first_among (field_questions line i M.forms fs) _ f (replied_err _ f _ e)))
+  pub zero_no : (f : FieldFault) → Err f ≡ entry_reply M c.place (fields_left c) → Err f ≡ entry_reply (by_value_form M) c.place (fields_left c)
+  zero_no f e = ap (λ o. replied o ((by_value_form M).spelled (fields_left c))) (sym (both_questions ∙ first_among (asked_at c M.forms) _ f (replied_err _ f _ e)))
 
-  module _ (x : E) (first : Ok x ≡ entry_reply M line i fs) where
-    then : first_no (field_questions line i (M.forms ++ M.forms) fs) ≡ first_no (field_questions line (i + length M.forms) M.forms fs)
-    then = both_questions ∙ first_after (field_questions line i M.forms fs) _ (replied_ok _ x _ first).0
+  module _ (x : E) (first : Ok x ≡ entry_reply M c.place (fields_left c)) (passed : Passed (length M.forms) c c') where
+    then : first_no (asked_at c (M.forms ++ M.forms)) ≡ first_no (asked_at c' M.forms)
+    then =
+        both_questions ∙ first_after (asked_at c M.forms) _ (replied_ok _ x _ first).0
+        ∙ ap (λ p. first_no (questions_from p M.forms (drop (length M.forms) (fields_left c)))) (sym passed.place_is) ∙ ap (λ l. first_no (questions_from c'.place M.forms l)) (sym passed.left_is)
 
-    pub one_no : (f : FieldFault) → Err f ≡ entry_reply M line (i + length M.forms) fs → Err f ≡ entry_reply (by_value_form M) line i fs
-    one_no f e = ap (λ o. replied o ((by_value_form M).spelled i fs)) (sym (then ∙ replied_err _ f _ e))
+    pub one_no : (f : FieldFault) → Err f ≡ entry_reply M c'.place (fields_left c') → Err f ≡ entry_reply (by_value_form M) c.place (fields_left c)
+    one_no f e = ap (λ o. replied o ((by_value_form M).spelled (fields_left c))) (sym (then ∙ replied_err _ f _ e))
 
-    pub both_yes : (y : E) → Ok y ≡ entry_reply M line (i + length M.forms) fs → Ok (record { zero = x; one = y }) ≡ entry_reply (by_value_form M) line i fs
+    pub both_yes : (y : E) → Ok y ≡ entry_reply M c'.place (fields_left c') → Ok (record { zero = x; one = y }) ≡ entry_reply (by_value_form M) c.place (fields_left c)
     both_yes y e =
         let a = replied_ok _ x _ first in
         let b = replied_ok _ y _ e in
-        ap Ok (λ k. record { zero = a.1 k; one = b.1 k }) ∙ ap (λ o. replied o ((by_value_form M).spelled i fs)) (sym (then ∙ b.0))
+        let one : y ≡ M.spelled (drop (length M.forms) (fields_left c)) = b.1 ∙ ap M.spelled passed.left_is in
+        ap Ok (λ k. record { zero = a.1 k; one = one k }) ∙ ap (λ o. replied o ((by_value_form M).spelled (fields_left c))) (sym (then ∙ b.0))
+
+-- the exit of a `?` that hands on the fault unchanged
+pub exits : {A F : Type 0} (r : Result A F) (f : F) (P : A → Type 0) (Q : F → Type 0) → IsErrAnd r (λ g. g ≡ f) → Q f → MatchResult r P Q
+exits r f P Q h q = let p = err_from_is_err_and r h in subst (λ x. MatchResult x P Q) (sym (p.1 ∙ ap Err p.2)) q

@@ -1,4 +1,3 @@
-pub mod CommandReading
 pub mod EntryReading
 pub mod LineReading
 pub mod ListingReading

@@ -1,5 +1,5 @@
 -- A line is read: its word, its place, the number of its fields, and then the fields. Assumes nothing.
-use Rattle.std.proofs.Common.{◌≡◌, ℕ, suc, Bor, ◌+◌, ◌-◌, ◌^◌, ◌<◌, ◌≤◌, min, Bool, true, false, cond, not, eqb, leb, List, [], ◌∷◌, length, is_some, Some, None, Option, refl, ap, ◌∙◌, arith, eq-eqb, ne_eqb, leb-true, true-eqb, false-eqb}
+use Rattle.std.proofs.Common.{◌≡◌, ℕ, suc, Bor, ◌+◌, ◌-◌, ◌^◌, ◌<◌, ◌≤◌, min, Bool, true, false, cond, not, eqb, leb, List, [], ◌∷◌, length, drop, sym, is_some, Some, None, Option, refl, ap, ◌∙◌, arith, eq-eqb, ne_eqb, leb-true, true-eqb, false-eqb}
 use Rattle.std.specs.Option.{option_map, unwrap_or}
 use Rattle.fields.specs.declared.faults.FieldFault.{FieldFault}
 use Rattle.fields.specs.declared.faults.LineFault.{LineFault}
@@ -11,11 +11,12 @@ use Rattle.fields.specs.Forms.{Form}
 use Rattle.std.proofs.lemmas.List.Splits.{length-slice_split}
 use Rattle.std.proofs.lemmas.List.Sums.{count_by-le-length}
 use Rattle.listing.specs.Text.{comma, fields}
-use Rattle.listing.specs.Lines.{field_questions}
+use Rattle.listing.specs.declared.lines.Cursor.{Cursor}
+use Rattle.listing.specs.Lines.{place_at, field_questions, questions_from, fields_left}
 use Rattle.listing.specs.Entries.{EntryForm}
 use Rattle.listing.specs.Commands.{said, call_forms}
 use Rattle.listing.specs.Reading.{line_limit, word_at, word_questions, inside, line_questions, opens, opening_forms, opening_questions, word_forms, command_questions, said_by, command_of}
-use Rattle.listing.specs.Asked.{first_after, first_among}
+use Rattle.listing.specs.Asked.{first_after, first_among, from_index}
 
 inside_by : (t : Bool) (f : FieldFault) (o : Option LineFault) (o' : Option FieldFault) → o ≡ option_map Field o' → cond t o (Some (Field f)) ≡ option_map Field (cond t o' (Some f))
 inside_by true f o o' e = e
@@ -33,16 +34,20 @@ short_by n false e f o h = let z : ◌≡◌ {A = ℕ} 0 1 = cc in absurd (omega
 word_short : (number : ℕ) (line : List ℕ) → first_no (word_questions number line) ≡ None → length line ≤ line_limit
 word_short number line h = short_by (length line) (leb (length line) line_limit) refl (TooLong number) (first_no ((is_some (word_at line), UnknownWord number) ∷ [])) h
 
+few_fields : (number : ℕ) (line : List ℕ) → first_no (word_questions number line) ≡ None → length (fields line) ≤ 401
+few_fields number line h = omega (arith, length-slice_split (λ b. eqb b comma) line, count_by-le-length (λ b. eqb b comma) line, word_short number line h)
+
 module _ (number : ℕ) (line : List ℕ) where
   pub word_no : (placed : Bool) (forms : List Form) (f : LineFault) → first_no (word_questions number line) ≡ Some f → first_no (line_questions placed forms number line) ≡ Some f
   word_no placed forms f h = first_among (word_questions number line) ((placed, Misplaced number) ∷ (eqb (length (fields line)) (suc (length forms)), FieldCount number) ∷ inside (field_questions number 1 forms (fields line))) f h
 
   -- where word, place and count are right, the fields are left
-  pub line_yes : (forms : List Form) → first_no (word_questions number line) ≡ None → length (fields line) ≡ suc (length forms) → first_no (line_questions true forms number line) ≡ option_map Field (first_no (field_questions number 1 forms (fields line)))
+  pub line_yes : (forms : List Form) → first_no (word_questions number line) ≡ None → length (fields line) ≡ suc (length forms) → first_no (line_questions true forms number line) ≡ option_map Field (first_no (questions_from (place_at number 1) forms (drop 1 (fields line))))
   line_yes forms h e =
       first_after (word_questions number line) ((true, Misplaced number) ∷ (eqb (length (fields line)) (suc (length forms)), FieldCount number) ∷ inside (field_questions number 1 forms (fields line))) h
       ∙ ap (λ t. cond t (first_no (inside (field_questions number 1 forms (fields line)))) (Some (FieldCount number))) (eq-eqb _ _ e)
       ∙ first_inside (field_questions number 1 forms (fields line))
+      ∙ ap (λ qs. option_map Field (first_no qs)) (sym (from_index number 1 forms (fields line) (omega (arith, few_fields number line h))))
 
   -- where the word is read and the line may not stand here, or has another number of fields
   place_no : (forms : List Form) → first_no (word_questions number line) ≡ None → first_no (line_questions false forms number line) ≡ Some (Misplaced number)
@@ -63,29 +68,30 @@ module _ (number : ℕ) (line : List ℕ) where
   pub command_place_no : {E : Type 0} (M : EntryForm E) → first_no (word_questions number line) ≡ None → word_at line ≡ Some Board → first_no (command_questions M number line) ≡ Some (Misplaced number)
   command_place_no M h w = ap (λ x. first_no (line_questions (not (opens x)) (word_forms M x) number line)) w ∙ place_no [] h
 
-  pub opening_yes : first_no (word_questions number line) ≡ None → word_at line ≡ Some Board → length (fields line) ≡ suc (length opening_forms) → first_no (opening_questions number line) ≡ option_map Field (first_no (field_questions number 1 opening_forms (fields line)))
+  pub opening_yes : first_no (word_questions number line) ≡ None → word_at line ≡ Some Board → length (fields line) ≡ suc (length opening_forms) → first_no (opening_questions number line) ≡ option_map Field (first_no (questions_from (place_at number 1) opening_forms (drop 1 (fields line))))
   opening_yes h w e = ap (λ x. first_no (line_questions (opens x) opening_forms number line)) w ∙ line_yes opening_forms h e
 
   module _ {E : Type 0} (M : EntryForm E) (call : CallWord) (w : word_at line ≡ Some (Call call)) where
-    pub command_yes : first_no (word_questions number line) ≡ None → length (fields line) ≡ suc (length (call_forms M call)) → first_no (command_questions M number line) ≡ option_map Field (first_no (field_questions number 1 (call_forms M call) (fields line)))
+    pub command_yes : first_no (word_questions number line) ≡ None → length (fields line) ≡ suc (length (call_forms M call)) → first_no (command_questions M number line) ≡ option_map Field (first_no (questions_from (place_at number 1) (call_forms M call) (drop 1 (fields line))))
     command_yes h e = ap (λ x. first_no (line_questions (not (opens x)) (word_forms M x) number line)) w ∙ line_yes (call_forms M call) h e
 
     pub command_count_no : first_no (word_questions number line) ≡ None → (length (fields line) ≡ suc (length (call_forms M call)) → ⊥) → first_no (command_questions M number line) ≡ Some (FieldCount number)
     command_count_no h e = ap (λ x. first_no (line_questions (not (opens x)) (word_forms M x) number line)) w ∙ count_no (call_forms M call) h e
 
-    pub command_is : command_of M line ≡ Some (said M call (fields line))
+    pub command_is : command_of M line ≡ Some (said M call (drop 1 (fields line)))
     command_is = ap (λ x. said_by M x (fields line)) w
 
 -- the number of fields that is compared fits, since the line is short
 module _ (number : ℕ) (line : List ℕ) (h : first_no (word_questions number line) ≡ None) (count n : ℕ) (e : count ≡ min n (2 ^ 64 - 1)) where
-  few_fields : length (fields line) ≤ 401
-  few_fields = omega (arith, length-slice_split (λ b. eqb b comma) line, count_by-le-length (λ b. eqb b comma) line, word_short number line h)
-
-  pub right_count : true ≡ eqb (length (fields line)) (count + 1) → (length (fields line) ≡ suc n) × (1 + n < 2 ^ 64)
-  right_count t = let same = true-eqb _ _ t in let few = few_fields in omega arith
+  pub right_count : true ≡ eqb (length (fields line)) (count + 1) → length (fields line) ≡ suc n
+  right_count t = let same = true-eqb _ _ t in let few = few_fields number line h in omega arith
 
   pub wrong_count : false ≡ eqb (length (fields line)) (count + 1) → length (fields line) ≡ suc n → ⊥
-  wrong_count t g = let few = few_fields in false-eqb _ _ t (omega arith)
+  wrong_count t g = let few = few_fields number line h in false-eqb _ _ t (omega arith)
+
+-- the questions to the fields after the word, as a cursor there has them
+pub from_word : (c : Cursor) (number : ℕ) (line : List ℕ) (forms : List Form) → fields_left c ≡ drop 1 (fields line) → c.place ≡ place_at number 1 → first_no (questions_from (place_at number 1) forms (drop 1 (fields line))) ≡ first_no (questions_from c.place forms (fields_left c))
+from_word c number line forms l p = ap (λ fs. first_no (questions_from (place_at number 1) forms fs)) (sym l) ∙ ap (λ q. first_no (questions_from q forms (fields_left c))) (sym p)
 
 -- what is shown where nothing may be there
 pub shown_or : (r : Option (Bor (List ℕ))) (d : Bor (List ℕ)) → (unwrap_or r d).now ≡ unwrap_or (option_map (λ x. x.now) r) d.now

@@ -19,27 +19,19 @@ use Rattle.listing.specs.Entries.{EntryForm}
 use Rattle.listing.specs.declared.commands.Command.{Command}
 use Rattle.fields.specs.declared.faults.ListingFault.{ListingFault}
 use Rattle.listing.specs.Listings.{NextCommandBy, NextCommand, listing_limit, left, Stands, NextLineBy, NextLine, in_listing, first_reply, listing_opening, Opened}
-use Rattle.listing.proofs.Splitting.{ended_more}
+use Rattle.listing.proofs.Splitting.{pieces_cut, pieces_only, past_none, ended_more}
 
 -- the first line of a text that is not empty, and the others
 ended_one : (bs : List ℕ) → 0 < length bs → ended (bs ∷ []) ≡ bs ∷ []
 ended_one [] h = absurd (omega arith)
 ended_one (b ∷ bs) h = refl
 
--- where no byte is a line feed, the text is the one line
-one_line : (bs : List ℕ) → 0 < length bs → length bs ≤ position_or_len (λ b. eqb b line_feed) bs → lines bs ≡ upto line_feed bs ∷ lines (past line_feed bs)
-one_line bs h none =
-    let is = position_or_len (λ b. eqb b line_feed) bs in
-    ap ended (slice_split_none (λ b. eqb b line_feed) bs (λ k d i. fails_before_first (λ b. eqb b line_feed) bs k d (omega arith)))
-    ∙ ended_one bs h
-    ∙ (λ i. sym (take_all is bs none) i ∷ lines (sym (drop_all (is + 1) bs (omega arith)) i))
-
 lines_next : (bs : List ℕ) → 0 < length bs → lines bs ≡ upto line_feed bs ∷ lines (past line_feed bs)
 lines_next bs h =
     ⊎_elim
-    (λ cut. ap ended (slice_split_first (λ b. eqb b line_feed) bs 0 cut) ∙ ended_more (upto line_feed bs) (past line_feed bs))
-    (one_line bs h)
-    (cases_lt (position_or_len (λ b. eqb b line_feed) bs) (length bs))
+    (λ cut. ap ended (pieces_cut line_feed bs cut) ∙ ended_more (upto line_feed bs) (past line_feed bs))
+    (λ none. ap ended (pieces_only line_feed bs none) ∙ ended_one (upto line_feed bs) (omega arith) ∙ ap (λ l. upto line_feed bs ∷ lines l) (sym (past_none line_feed bs none)))
+    (cases_lt (length (upto line_feed bs)) (length bs))
 
 pub past_shorter : (cut : ℕ) (bs : List ℕ) → 0 < length bs → suc (length (past cut bs)) ≤ length bs
 past_shorter cut bs h = omega (arith, length-drop (position_or_len (λ b. eqb b cut) bs + 1) bs)

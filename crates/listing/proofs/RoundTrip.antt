@@ -1,5 +1,5 @@
 -- A command that is written out as a line is read back as itself. Assumes nothing.
-use Rattle.std.proofs.Common.{◌≡◌, ℕ, suc, ◌+◌, ◌≤◌, Bool, true, not, ◌&&◌, eqb, List, [], ◌∷◌, ◌++◌, length, get_or, is_some, Some, None, Ok, Err, decimal, Result, refl, ap, ◌∙◌, arith, length-append, le-leb, MatchResult}
+use Rattle.std.proofs.Common.{◌≡◌, ℕ, suc, ◌+◌, ◌≤◌, Bool, true, not, ◌&&◌, eqb, List, [], ◌∷◌, ◌++◌, length, get_or, drop, is_some, Some, None, Ok, Err, decimal, Result, refl, ap, ◌∙◌, arith, length-append, le-leb, MatchResult}
 use borrow.Author.Tests.{eqb-false, not-true}
 use Rattle.std.specs.Option.{option_map}
 use Rattle.std.specs.List.{AllByRecursion}
@@ -20,7 +20,8 @@ use Rattle.fields.specs.Words.{spelling, word_of}
 use Rattle.listing.specs.declared.commands.Command.{Command}
 use Rattle.listing.specs.declared.commands.Opening.{Opening}
 use Rattle.listing.specs.Text.{comma, fields, parted_by, Without}
-use Rattle.listing.specs.Lines.{place_at, field_questions}
+use Rattle.fields.specs.declared.faults.Place.{Place}
+use Rattle.listing.specs.Lines.{place_at, next_place, questions_from}
 use Rattle.listing.specs.Entries.{EntryForm, by_value_form}
 use Rattle.listing.specs.Commands.{Said, one, pair, pin, free, back, score, says, said, call_forms}
 use Rattle.listing.specs.Reading.{line_limit, word_at, word_questions, opening_forms, opening_of, opening_questions, opening_reply, command_questions, command_of, CommandReply}
@@ -67,58 +68,53 @@ reply_is M number line c all is (Ok x) h = let k = h.1 in cc
 reply_is M number line c all is (Err f) h = let z : ◌≡◌ {A = ℕ} 0 1 = cc in omega arith
 
 -- a line whose fields are a word and the fields that it asks for
-module _ {E : Type 0} (M : EntryForm E) (number : ℕ) (line : List ℕ) (short : length line ≤ line_limit) (call : CallWord) (ws : List (List ℕ)) (plain : AllByRecursion (Without comma) ws) (is_line : line ≡ parted_by comma (spelling (Call call) ∷ ws)) (count : length ws ≡ length (call_forms M call)) (passes : first_no (field_questions number 1 (call_forms M call) (spelling (Call call) ∷ ws)) ≡ None) where
+module _ {E : Type 0} (M : EntryForm E) (number : ℕ) (line : List ℕ) (short : length line ≤ line_limit) (call : CallWord) (ws : List (List ℕ)) (plain : AllByRecursion (Without comma) ws) (is_line : line ≡ parted_by comma (spelling (Call call) ∷ ws)) (count : length ws ≡ length (call_forms M call)) (passes : first_no (questions_from (place_at number 1) (call_forms M call) ws) ≡ None) where
   parts : fields line ≡ spelling (Call call) ∷ ws
   parts = ap fields is_line ∙ pieces_parted comma (spelling (Call call)) ws (word_plain (Call call), plain)
 
   word : word_at line ≡ Some (Call call)
   word = ap (λ fs. word_of (get_or fs 0 [])) parts ∙ word_known (Call call)
 
-  back_by : (c : Said E) → said M call (spelling (Call call) ∷ ws) ≡ c → (r : Result (Command E) LineFault) → CommandReply M number line r → MatchResult r (λ x. says x ≡ c) (λ f. ⊥)
+  back_by : (c : Said E) → said M call ws ≡ c → (r : Result (Command E) LineFault) → CommandReply M number line r → MatchResult r (λ x. says x ≡ c) (λ f. ⊥)
   back_by c e =
       reply_is M number line c
-      (command_yes number line M call word (all_yes (word_questions number line) (le-leb _ _ short, (ap is_some word, tt))) (ap length parts ∙ ap suc count) ∙ ap (option_map Field) (ap (λ fs. first_no (field_questions number 1 (call_forms M call) fs)) parts ∙ passes))
-      (command_is number line M call word ∙ ap (λ fs. Some (said M call fs)) parts ∙ ap Some e)
+      (command_yes number line M call word (all_yes (word_questions number line) (le-leb _ _ short, (ap is_some word, tt))) (ap length parts ∙ ap suc count) ∙ ap (option_map Field) (ap (λ fs. first_no (questions_from (place_at number 1) (call_forms M call) (drop 1 fs))) parts ∙ passes))
+      (command_is number line M call word ∙ ap (λ fs. Some (said M call (drop 1 fs))) parts ∙ ap Some e)
 
--- the numbers after a word, and the entries after them
-module _ (word : List ℕ) (number : ℕ) where
-  naturals_one : (v : ℕ) (forms : List Form) (ws : List (List ℕ)) → natural_range v ≡ true → first_no (field_questions number 2 forms (word ∷ decimal v ∷ ws)) ≡ None → first_no (field_questions number 1 (natural ∷ forms) (word ∷ decimal v ∷ ws)) ≡ None
-  naturals_one v forms ws h k = passes_field (word ∷ []) (decimal v) ws natural forms number (natural_passes v _ h) k
-
-  naturals_two : (a b : ℕ) (forms : List Form) (ws : List (List ℕ)) → natural_range a ≡ true → natural_range b ≡ true → first_no (field_questions number 3 forms (word ∷ decimal a ∷ decimal b ∷ ws)) ≡ None → first_no (field_questions number 1 (natural ∷ natural ∷ forms) (word ∷ decimal a ∷ decimal b ∷ ws)) ≡ None
-  naturals_two a b forms ws h k l = naturals_one a (natural ∷ forms) (decimal b ∷ ws) h (passes_field (word ∷ decimal a ∷ []) (decimal b) ws natural forms number (natural_passes b _ k) l)
+-- a number or two, and the entries after them
+natural_first : (p : Place) (v : ℕ) (forms : List Form) (ws : List (List ℕ)) → natural_range v ≡ true → first_no (questions_from (next_place p) forms ws) ≡ None → first_no (questions_from p (natural ∷ forms) (decimal v ∷ ws)) ≡ None
+natural_first p v forms ws h k = passes_field natural forms p (decimal v) ws (natural_passes v _ h) k
 
 module _ {E : Type 0} (M : EntryForm E) (law : ReadsBack M) (number : ℕ) (line : List ℕ) (r : Result (Command E) LineFault) (reply : CommandReply M number line r) where
   pub command_back : CommandBack M line r
   command_back (one v es) h short e =
       let p = and_parts (natural_range v) ((by_value_form M).fits es) h in
       let two = by_value_back M law in
-      let w = spelling (Call One) in
       back_by M number line short One (decimal v ∷ (by_value_form M).written es) (natural_plain v p.0, two.plain es p.1) e (ap suc (two.count es))
-      (naturals_one w number v (by_value_form M).forms _ p.0 (passes_last (by_value_form M) two es (w ∷ decimal v ∷ []) p.1 number))
-      (one v es) (λ i. one (natural_is v p.0 i) (same_last (by_value_form M) two es (w ∷ decimal v ∷ []) p.1 i)) r reply
+      (natural_first (place_at number 1) v (by_value_form M).forms _ p.0 (passes_last (by_value_form M) two es p.1 _))
+      (one v es) (λ i. one (natural_is v p.0 i) (same_last (by_value_form M) two es p.1 i)) r reply
   command_back (pair a b es) h short e =
       let p = and_parts (natural_range a) (natural_range b && (by_value_form (by_value_form M)).fits es) h in
       let q = and_parts (natural_range b) ((by_value_form (by_value_form M)).fits es) p.1 in
       let four = by_value_back (by_value_form M) (by_value_back M law) in
-      let w = spelling (Call Pair) in
+      let forms = (by_value_form (by_value_form M)).forms in
       back_by M number line short Pair (decimal a ∷ decimal b ∷ (by_value_form (by_value_form M)).written es) (natural_plain a p.0, (natural_plain b q.0, four.plain es q.1)) e (ap (λ n. suc (suc n)) (four.count es))
-      (naturals_two w number a b (by_value_form (by_value_form M)).forms _ p.0 q.0 (passes_last (by_value_form (by_value_form M)) four es (w ∷ decimal a ∷ decimal b ∷ []) q.1 number))
-      (pair a b es) (λ i. pair (natural_is a p.0 i) (natural_is b q.0 i) (same_last (by_value_form (by_value_form M)) four es (w ∷ decimal a ∷ decimal b ∷ []) q.1 i)) r reply
+      (natural_first (place_at number 1) a (natural ∷ forms) (decimal b ∷ (by_value_form (by_value_form M)).written es) p.0 (natural_first (next_place (place_at number 1)) b forms ((by_value_form (by_value_form M)).written es) q.0 (passes_last (by_value_form (by_value_form M)) four es q.1 _)))
+      (pair a b es) (λ i. pair (natural_is a p.0 i) (natural_is b q.0 i) (same_last (by_value_form (by_value_form M)) four es q.1 i)) r reply
   command_back (pin v x) h short e =
       let p = and_parts (natural_range v) (natural_range x) h in
       back_by M number line short Pin (decimal v ∷ decimal x ∷ []) (natural_plain v p.0, (natural_plain x p.1, tt)) e refl
-      (naturals_two (spelling (Call Pin)) number v x [] [] p.0 p.1 refl)
+      (natural_first (place_at number 1) v (natural ∷ []) (decimal x ∷ []) p.0 (natural_first (next_place (place_at number 1)) x [] [] p.1 refl))
       (pin v x) (λ i. pin (natural_is v p.0 i) (natural_is x p.1 i)) r reply
   command_back (free v) h short e =
       back_by M number line short Free (decimal v ∷ []) (natural_plain v h, tt) e refl
-      (naturals_one (spelling (Call Free)) number v [] [] h refl)
+      (natural_first (place_at number 1) v [] [] h refl)
       (free v) (ap free (natural_is v h)) r reply
   command_back back h short e = back_by M number line short Back [] tt e refl refl back refl r reply
   command_back (score ds) h short e =
       let p = and_parts (some ds) (all_ascii_digits ds) h in
       back_by M number line short Score (ds ∷ []) (digits_plain ds p.1, tt) e refl
-      (passes_field (spelling (Call Score) ∷ []) ds [] layout [] number (all_yes (asked layout (place_at number 1) ds) (p.0, (p.1, tt))) refl)
+      (passes_field layout [] (place_at number 1) ds [] (all_yes (asked layout (place_at number 1) ds) (p.0, (p.1, tt))) refl)
       (score ds) refl r reply
 
 letter_known : (k : BoardKind) → is_some (kind_of (letter k)) ≡ true
@@ -154,10 +150,10 @@ opening_back number line r reply o h e =
     let word : word_at line ≡ Some Board = ap (λ fs. word_of (get_or fs 0 [])) parts in
     let long : length (n ++ comma ∷ l) ≡ length n + suc (length l) = length-append n (comma ∷ l) in
     let short : length line ≤ line_limit = omega (arith, ap length e, long, natural_short o.variables h, letter_length o.kind) in
-    let passes : first_no (field_questions number 1 opening_forms (opening_fields o)) ≡ None =
-    naturals_one (spelling Board) number o.variables (kind ∷ []) (l ∷ []) h
-    (passes_field (spelling Board ∷ n ∷ []) l [] kind [] number (all_yes (asked kind (place_at number 2) l) (letter_known o.kind, tt)) refl) in
+    let passes : first_no (questions_from (place_at number 1) opening_forms (n ∷ l ∷ [])) ≡ None =
+    natural_first (place_at number 1) o.variables (kind ∷ []) (l ∷ []) h
+    (passes_field kind [] (next_place (place_at number 1)) l [] (all_yes (asked kind (next_place (place_at number 1)) l) (letter_known o.kind, tt)) refl) in
     let yes : first_no (opening_questions number line) ≡ None =
     opening_yes number line (all_yes (word_questions number line) (le-leb _ _ short, (ap is_some word, tt))) word (ap length parts)
-    ∙ ap (option_map Field) (ap (λ fs. first_no (field_questions number 1 opening_forms fs)) parts ∙ passes) in
-    reply ∙ ap (λ q. replied q (opening_of (fields line))) yes ∙ ap Ok (ap opening_of parts ∙ (λ i. record { variables = natural_is o.variables h i; kind = letter_is o.kind i }))
+    ∙ ap (option_map Field) (ap (λ fs. first_no (questions_from (place_at number 1) opening_forms (drop 1 fs))) parts ∙ passes) in
+    reply ∙ ap (λ q. replied q (opening_of (drop 1 (fields line)))) yes ∙ ap Ok (ap (λ fs. opening_of (drop 1 fs)) parts ∙ (λ i. record { variables = natural_is o.variables h i; kind = letter_is o.kind i }))

@@ -1,9 +1,12 @@
 -- The pieces of a text, put together again, are the text, and there is no other way to part it. Assumes nothing.
-use Rattle.std.proofs.Common.{◌≡◌, ℕ, ◌<◌, Bool, true, false, cond, eqb, ◌⊎◌, List, [], ◌∷◌, ◌++◌, length, sym, refl, ap, ◌∙◌, inl, inr, ⊎_elim, append_assoc, arith, eq-eqb, ne_eqb}
+use Rattle.std.proofs.Common.{◌≡◌, ℕ, ◌+◌, ◌<◌, ◌≤◌, Bool, true, false, cond, not, eqb, ◌⊎◌, List, [], ◌∷◌, ◌++◌, length, sym, refl, ap, ◌∙◌, inl, inr, ⊎_elim, append_assoc, arith, eq-eqb, ne_eqb}
 use borrow.Author.Tests.{eqb-false}
-use Rattle.std.specs.List.{AllByRecursion, onto_first}
-use Rattle.std.proofs.lemmas.List.Splits.{slice_split-cons_yes, slice_split-cons_no, length-slice_split, join_with_byte-slice_split}
-use Rattle.fields.specs.Text.{pieces}
+use Rattle.std.specs.List.{AllByRecursion, onto_first, position_or_len}
+use Rattle.std.proofs.lemmas.List.{take_all, drop_all}
+use Rattle.std.proofs.lemmas.List.Sums.{fails_before_first}
+use Rattle.std.proofs.lemmas.List.Folds.{length-prefix_len}
+use Rattle.std.proofs.lemmas.List.Splits.{slice_split-cons_yes, slice_split-cons_no, slice_split_first, slice_split_none, length-slice_split, join_with_byte-slice_split}
+use Rattle.fields.specs.Text.{upto, past, pieces}
 use Rattle.listing.specs.Text.{parted_by, ended, line_feed, lines, Without, closed, TextLaws}
 
 -- a piece, then the cut, then the rest
@@ -18,6 +21,23 @@ uncut cut (b ∷ p) h = slice_split-cons_no (λ x. eqb x cut) b p (ne_eqb b cut 
 pub pieces_parted : (cut : ℕ) (p : List ℕ) (ps : List (List ℕ)) → AllByRecursion (Without cut) (p ∷ ps) → pieces cut (parted_by cut (p ∷ ps)) ≡ p ∷ ps
 pieces_parted cut p [] h = uncut cut p h.0
 pieces_parted cut p (q ∷ ps) h = cut_after cut p (parted_by cut (q ∷ ps)) h.0 ∙ ap (λ l. p ∷ l) (pieces_parted cut q ps h.1)
+
+-- the first piece, and the others
+module _ (cut : ℕ) (bs : List ℕ) where
+  reached : length (upto cut bs) ≡ position_or_len (λ b. eqb b cut) bs
+  reached = length-prefix_len (λ b. not (eqb b cut)) bs
+
+  pub pieces_cut : length (upto cut bs) < length bs → pieces cut bs ≡ upto cut bs ∷ pieces cut (past cut bs)
+  pieces_cut h = slice_split_first (λ b. eqb b cut) bs 0 (omega (arith, reached))
+
+  pub pieces_only : length bs ≤ length (upto cut bs) → pieces cut bs ≡ upto cut bs ∷ []
+  pieces_only h =
+      let end : length bs ≤ position_or_len (λ b. eqb b cut) bs = omega (arith, reached) in
+      slice_split_none (λ b. eqb b cut) bs (λ k d i. fails_before_first (λ b. eqb b cut) bs k d (omega arith))
+      ∙ ap (λ l. l ∷ []) (sym (take_all (position_or_len (λ b. eqb b cut) bs) bs end))
+
+  pub past_none : length bs ≤ length (upto cut bs) → past cut bs ≡ []
+  past_none h = drop_all (position_or_len (λ b. eqb b cut) bs + 1) bs (omega (arith, reached))
 
 apart_by : (t : Bool) (cut b : ℕ) (ps : List (List ℕ)) → eqb b cut ≡ t → AllByRecursion (Without cut) ps → AllByRecursion (Without cut) (cond t ([] ∷ ps) (onto_first b ps))
 apart_by true cut b ps e h = (tt, h)

@@ -1,11 +1,12 @@
 -- Questions that are put one after the other. Assumes nothing.
-use Rattle.std.proofs.Common.{◌≡◌, ℕ, suc, ◌+◌, Bool, true, false, cond, List, [], ◌∷◌, ◌++◌, length, get_or, Some, None, Ok, Err, Option, sym, refl, ap, ◌∙◌, arith}
+use Rattle.std.proofs.Common.{◌≡◌, ℕ, suc, ◌+◌, Bool, true, false, cond, List, [], ◌∷◌, ◌++◌, length, get_or, drop, ◌^◌, ◌<◌, zero, Some, None, Ok, Err, Option, sym, refl, ap, ◌∙◌, arith}
 use Rattle.std.specs.List.{AllByRecursion}
 use Rattle.fields.specs.declared.faults.Place.{Place}
 use Rattle.fields.specs.declared.faults.FieldFault.{FieldFault}
 use Rattle.fields.specs.Questions.{Question, first_no, replied}
 use Rattle.fields.specs.Forms.{Form, asked}
-use Rattle.listing.specs.Lines.{place_at, field_questions}
+use Rattle.listing.specs.Lines.{place_at, field_questions, next_place, place_after, questions_from}
+use Rattle.std.proofs.lemmas.List.{drop-drop, drop_all, get_or-drop}
 
 module _ {F A : Type 0} where
   pub replied_ok : (o : Option F) (x v : A) → Ok x ≡ replied o v → (o ≡ None) × (x ≡ v)
@@ -39,23 +40,38 @@ module _ {F : Type 0} where
   first_among [] rs f e = let z : ◌≡◌ {A = ℕ} 0 1 = cc in absurd (omega arith)
   first_among (q ∷ qs) rs f e = no_by q.0 q.1 f (first_no qs) (first_no (qs ++ rs)) (first_among qs rs f) e
 
-module _ (form : Form) (line i : ℕ) (forms : List Form) (fs : List (List ℕ)) where
-  -- a field that is read, and then the others
-  pub field_yes : (place : Place) (bytes : List ℕ) → bytes ≡ get_or fs i [] → place ≡ place_at line i → first_no (asked form place bytes) ≡ None → first_no (field_questions line i (form ∷ forms) fs) ≡ first_no (field_questions line (i + 1) forms fs)
-  field_yes place bytes b p e =
-      first_after (asked form (place_at line i) (get_or fs i [])) (field_questions line (i + 1) forms fs) (ap (λ x. first_no (asked form (place_at line i) x)) (sym b) ∙ ap (λ x. first_no (asked form x bytes)) (sym p) ∙ e)
+-- a field that is read, and then the others
+module _ (form : Form) (p : Place) (forms : List Form) (fs : List (List ℕ)) where
+  pub field_yes : first_no (asked form p (get_or fs 0 [])) ≡ None → first_no (questions_from p (form ∷ forms) fs) ≡ first_no (questions_from (next_place p) forms (drop 1 fs))
+  field_yes e = first_after (asked form p (get_or fs 0 [])) (questions_from (next_place p) forms (drop 1 fs)) e
 
-  pub field_no : (place : Place) (bytes : List ℕ) (f : FieldFault) → bytes ≡ get_or fs i [] → place ≡ place_at line i → first_no (asked form place bytes) ≡ Some f → first_no (field_questions line i (form ∷ forms) fs) ≡ Some f
-  field_no place bytes f b p e =
-      first_among (asked form (place_at line i) (get_or fs i [])) (field_questions line (i + 1) forms fs) f (ap (λ x. first_no (asked form (place_at line i) x)) (sym b) ∙ ap (λ x. first_no (asked form x bytes)) (sym p) ∙ e)
+  pub field_no : (f : FieldFault) → first_no (asked form p (get_or fs 0 [])) ≡ Some f → first_no (questions_from p (form ∷ forms) fs) ≡ Some f
+  field_no f e = first_among (asked form p (get_or fs 0 [])) (questions_from (next_place p) forms (drop 1 fs)) f e
+
+first_dropped : (i : ℕ) (fs : List (List ℕ)) → get_or (drop i fs) 0 [] ≡ get_or fs i []
+first_dropped i fs = get_or-drop i fs 0 [] ∙ ap (λ k. get_or fs k []) (let z : i + 0 ≡ i = omega arith in z)
 
 ++-right_assoc : {A : Type 0} (xs ys zs : List A) → (xs ++ ys) ++ zs ≡ xs ++ (ys ++ zs)
 ++-right_assoc [] ys zs = refl
 ++-right_assoc (x ∷ xs) ys zs = ap (λ l. x ∷ l) (++-right_assoc xs ys zs)
 
-pub questions_append : (line i : ℕ) (xs ys : List Form) (fs : List (List ℕ)) → field_questions line i (xs ++ ys) fs ≡ field_questions line i xs fs ++ field_questions line (i + length xs) ys fs
-questions_append line i [] ys fs = ap (λ k. field_questions line k ys fs) (let z : i ≡ i + 0 = omega arith in z)
-questions_append line i (x ∷ xs) ys fs =
-    ap (λ l. asked x (place_at line i) (get_or fs i []) ++ l)
-    (questions_append line (i + 1) xs ys fs ∙ ap (λ k. field_questions line (i + 1) xs fs ++ field_questions line k ys fs) (let z : i + 1 + length xs ≡ i + suc (length xs) = omega arith in z))
-    ∙ sym (++-right_assoc (asked x (place_at line i) (get_or fs i [])) (field_questions line (i + 1) xs fs) (field_questions line (i + suc (length xs)) ys fs))
+pub questions_append : (p : Place) (xs ys : List Form) (fs : List (List ℕ)) → questions_from p (xs ++ ys) fs ≡ questions_from p xs fs ++ questions_from (place_after (length xs) p) ys (drop (length xs) fs)
+questions_append p [] ys fs = refl
+questions_append p (x ∷ xs) ys fs =
+    ap (λ l. asked x p (get_or fs 0 []) ++ l)
+    (questions_append (next_place p) xs ys (drop 1 fs) ∙ ap (λ l. questions_from (next_place p) xs (drop 1 fs) ++ questions_from (place_after (length xs) (next_place p)) ys l) (dropped xs fs))
+    ∙ sym (++-right_assoc (asked x p (get_or fs 0 [])) (questions_from (next_place p) xs (drop 1 fs)) (questions_from (place_after (length xs) (next_place p)) ys (drop (suc (length xs)) fs)))
+  where
+    dropped : (xs : List Form) (fs : List (List ℕ)) → drop (length xs) (drop 1 fs) ≡ drop (suc (length xs)) fs
+    dropped xs [] = drop_all (length xs) [] (omega arith)
+    dropped xs (f ∷ fs) = refl
+
+-- the same questions at the places of a line's fields, where these fit their numbers
+pub from_index : (line i : ℕ) (forms : List Form) (fs : List (List ℕ)) → i + 1 + length forms < 2 ^ 64 → questions_from (place_at line i) forms (drop i fs) ≡ field_questions line i forms fs
+from_index line i [] fs h = refl
+from_index line i (form ∷ forms) fs h =
+    let next : next_place (place_at line i) ≡ place_at line (i + 1) = ap (λ n. record { line = line; field = n }) (omega arith) in
+    ap (λ w. asked form (place_at line i) w ++ questions_from (next_place (place_at line i)) forms (drop 1 (drop i fs))) (first_dropped i fs)
+    ∙ ap (λ p. asked form (place_at line i) (get_or fs i []) ++ questions_from p forms (drop 1 (drop i fs))) next
+    ∙ ap (λ l. asked form (place_at line i) (get_or fs i []) ++ questions_from (place_at line (i + 1)) forms l) (drop-drop 1 i fs)
+    ∙ ap (λ l. asked form (place_at line i) (get_or fs i []) ++ l) (from_index line (i + 1) forms fs (omega arith))

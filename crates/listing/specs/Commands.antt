@@ -1,5 +1,6 @@
 -- The commands that lines spell. Assumes nothing.
-use Rattle.std.specs.Prelude.{◌≡◌, ℕ, ◌+◌, ◌^◌, ◌<◌, List, [], ◌∷◌, length, Some, None, Result, MatchResult, slice_index_or}
+use Rattle.std.specs.Prelude.{◌≡◌, ℕ, ◌+◌, ◌^◌, ◌<◌, List, [], ◌∷◌, length, drop, Some, None, Result, MatchResult, slice_index_or}
+use Rattle.fields.specs.declared.faults.Place.{Place}
 use Rattle.fields.specs.declared.faults.FieldFault.{FieldFault}
 use Rattle.fields.specs.declared.words.Call.{Call as CallWord}
 use Rattle.fields.specs.declared.words.Call.TheVariants.{One, Pair, Pin, Free, Back, Score}
@@ -10,9 +11,7 @@ use Rattle.listing.specs.declared.commands.Command.{Command}
 use Rattle.listing.specs.declared.commands.Command.TheVariants as commands
 use Rattle.score.specs.declared.values.Two.{Two}
 use Rattle.score.specs.declared.values.Four.{Four}
-use Rattle.listing.specs.declared.lines.Line.{Line}
-use Rattle.listing.specs.Text.{fields}
-use Rattle.listing.specs.Lines.{text_of, field_questions}
+use Rattle.listing.specs.Lines.{questions_from}
 use Rattle.listing.specs.Entries.{EntryForm, by_value_form}
 
 -- a command, with its layout as a list of bytes
@@ -47,19 +46,18 @@ module _ {E : Type 0} (M : EntryForm E) where
   call_forms Back = []
   call_forms Score = layout ∷ []
 
-  -- the command that the fields of a line spell, the word among them
+  -- the command that the fields after the word spell
   abbrev pub said : CallWord → List (List ℕ) → Said E
-  said One fs = one (value (slice_index_or fs 1 [])) ((by_value_form M).spelled 2 fs)
-  said Pair fs = pair (value (slice_index_or fs 1 [])) (value (slice_index_or fs 2 [])) ((by_value_form (by_value_form M)).spelled 3 fs)
-  said Pin fs = pin (value (slice_index_or fs 1 [])) (value (slice_index_or fs 2 []))
-  said Free fs = free (value (slice_index_or fs 1 []))
+  said One fs = one (value (slice_index_or fs 0 [])) ((by_value_form M).spelled (drop 1 fs))
+  said Pair fs = pair (value (slice_index_or fs 0 [])) (value (slice_index_or fs 1 [])) ((by_value_form (by_value_form M)).spelled (drop 2 fs))
+  said Pin fs = pin (value (slice_index_or fs 0 [])) (value (slice_index_or fs 1 []))
+  said Free fs = free (value (slice_index_or fs 0 []))
   said Back fs = back
-  said Score fs = score (slice_index_or fs 1 [])
+  said Score fs = score (slice_index_or fs 0 [])
 
-  -- the reply to the fields of a command: the first no, or what they spell
-  abbrev pub CallReply : CallWord → Line → Result (Command E) FieldFault → Type 0
-  CallReply call l r =
-      1 + length (call_forms call) < 2 ^ 64 →
+  -- the reply to the fields after the word, of which the first has this place: the first no, or the command that they spell
+  abbrev pub CallReply : CallWord → Place → List (List ℕ) → Result (Command E) FieldFault → Type 0
+  CallReply call p fs r =
       MatchResult r
-      (λ c. (first_no (field_questions l.number 1 (call_forms call) (fields (text_of l))) ≡ None) × (says c ≡ said call (fields (text_of l))))
-      (λ f. first_no (field_questions l.number 1 (call_forms call) (fields (text_of l))) ≡ Some f)
+      (λ c. (first_no (questions_from p (call_forms call) fs) ≡ None) × (says c ≡ said call fs))
+      (λ f. first_no (questions_from p (call_forms call) fs) ≡ Some f)

@@ -1,35 +1,36 @@
 -- How an entry is written into fields and read from them. Assumes nothing.
-use Rattle.std.specs.Prelude.{ℕ, ◌+◌, Bool, ◌&&◌, List, [], ◌∷◌, ◌++◌, length, decimal, Result, slice_index_or}
+use Rattle.std.specs.Prelude.{ℕ, ◌+◌, Bool, ◌&&◌, List, [], ◌∷◌, ◌++◌, length, drop, decimal, Result, slice_index_or}
 use Rattle.std.specs.Fmt.{signed_decimal}
 use Rattle.score.specs.declared.margins.Slack.{Slack}
 use Rattle.score.specs.declared.tiers.Weighted.{Weighted}
 use Rattle.score.specs.declared.totals.Access.{Access}
+use Rattle.fields.specs.declared.faults.Place.{Place}
 use Rattle.fields.specs.declared.faults.FieldFault.{FieldFault}
 use Rattle.fields.specs.Questions.{answered}
 use Rattle.fields.specs.Values.{value, signed_value, natural_range, integer_range}
 use Rattle.fields.specs.Forms.{Form, natural, integer}
 use Rattle.score.specs.declared.values.Two.{Two}
-use Rattle.listing.specs.Lines.{field_questions}
+use Rattle.listing.specs.Lines.{questions_from}
 
 pub record EntryForm (E : Type 0) : Type 0 where
   -- what the fields of an entry hold, from the left
   pub forms : List Form
-  -- the entry that the fields from an index on spell
-  pub spelled : ℕ → List (List ℕ) → E
+  -- the entry that fields spell, from the first of them on
+  pub spelled : List (List ℕ) → E
   -- the fields that an entry is written as
   pub written : E → List (List ℕ)
   -- each number is in its field's range
   pub fits : E → Bool
 
--- the reply to an entry whose first field has this index among the fields of a line
-abbrev pub entry_reply : {E : Type 0} → EntryForm E → ℕ → ℕ → List (List ℕ) → Result E FieldFault
-entry_reply M line index fs = answered (field_questions line index M.forms fs) (M.spelled index fs)
+-- the reply to an entry whose first field has this place
+abbrev pub entry_reply : {E : Type 0} → EntryForm E → Place → List (List ℕ) → Result E FieldFault
+entry_reply M p fs = answered (questions_from p M.forms fs) (M.spelled fs)
 
 -- hits, and then cycles
 abbrev pub access_form : EntryForm Access
 access_form = record {
   forms = natural ∷ integer ∷ [];
-  spelled = λ index fs. record { hits = value (slice_index_or fs index []); cycles = signed_value (slice_index_or fs (index + 1) []) };
+  spelled = λ fs. record { hits = value (slice_index_or fs 0 []); cycles = signed_value (slice_index_or fs 1 []) };
   written = λ e. decimal e.hits ∷ signed_decimal e.cycles ∷ [];
   fits = λ e. natural_range e.hits && integer_range e.cycles;
 }
@@ -37,7 +38,7 @@ access_form = record {
 abbrev pub slack_form : EntryForm Slack
 slack_form = record {
   forms = integer ∷ [];
-  spelled = λ index fs. record { margin = signed_value (slice_index_or fs index []) };
+  spelled = λ fs. record { margin = signed_value (slice_index_or fs 0 []) };
   written = λ e. signed_decimal e.margin ∷ [];
   fits = λ e. integer_range e.margin;
 }
@@ -46,7 +47,7 @@ slack_form = record {
 abbrev pub weighted_form : {E : Type 0} → EntryForm E → EntryForm (Weighted E)
 weighted_form M = record {
   forms = integer ∷ M.forms;
-  spelled = λ index fs. record { weight = signed_value (slice_index_or fs index []); second = M.spelled (index + 1) fs };
+  spelled = λ fs. record { weight = signed_value (slice_index_or fs 0 []); second = M.spelled (drop 1 fs) };
   written = λ e. signed_decimal e.weight ∷ M.written e.second;
   fits = λ e. integer_range e.weight && M.fits e.second;
 }
@@ -55,7 +56,7 @@ weighted_form M = record {
 abbrev pub by_value_form : {E : Type 0} → EntryForm E → EntryForm (Two E)
 by_value_form M = record {
   forms = M.forms ++ M.forms;
-  spelled = λ index fs. record { zero = M.spelled index fs; one = M.spelled (index + length M.forms) fs };
+  spelled = λ fs. record { zero = M.spelled fs; one = M.spelled (drop (length M.forms) fs) };
   written = λ e. M.written e.zero ++ M.written e.one;
   fits = λ e. M.fits e.zero && M.fits e.one;
 }

@@ -1,10 +1,15 @@
--- A line of a listing and the places of its fields. Assumes nothing.
-use Rattle.std.specs.Prelude.{ℕ, ◌+◌, List, [], ◌∷◌, ◌++◌, slice_index_or}
+-- A line of a listing, and the places of its fields. Assumes nothing.
+use Rattle.std.specs.Prelude.{◌≡◌, ℕ, zero, suc, ◌+◌, ◌-◌, ◌^◌, min, List, [], ◌∷◌, ◌++◌, drop, Option, slice_index_or}
+use Rattle.std.specs.Borrow.{Bor}
+use Rattle.std.specs.Option.{option_map, unwrap_or}
 use Rattle.fields.specs.declared.faults.Place.{Place}
 use Rattle.fields.specs.declared.faults.FieldFault.{FieldFault}
+use Rattle.fields.specs.declared.parts.Part.{Part}
 use Rattle.fields.specs.Questions.{Question}
-use Rattle.fields.specs.Forms.{Form, asked}
+use Rattle.fields.specs.Forms.{Form, asked, bytes_of}
 use Rattle.listing.specs.declared.lines.Line.{Line}
+use Rattle.listing.specs.declared.lines.Cursor.{Cursor}
+use Rattle.listing.specs.Text.{fields}
 
 abbrev pub text_of : Line → List ℕ
 text_of l = l.text.now
@@ -17,3 +22,36 @@ place_at line index = record { line = line; field = index + 1 }
 abbrev pub field_questions : ℕ → ℕ → List Form → List (List ℕ) → List (Question FieldFault)
 field_questions line index [] fs = []
 field_questions line index (form ∷ forms) fs = asked form (place_at line index) (slice_index_or fs index []) ++ field_questions line (index + 1) forms fs
+
+-- the next place, or this one where no greater number fits
+abbrev pub next_place : Place → Place
+next_place p = record { line = p.line; field = min (p.field + 1) (2 ^ 64 - 1) }
+
+-- the place so many fields further on
+abbrev pub place_after : ℕ → Place → Place
+place_after zero p = p
+place_after (suc n) p = place_after n (next_place p)
+
+-- The same questions to fields of which the first has this place.
+abbrev pub questions_from : Place → List Form → List (List ℕ) → List (Question FieldFault)
+questions_from p [] fs = []
+questions_from p (form ∷ forms) fs = asked form p (slice_index_or fs 0 []) ++ questions_from (next_place p) forms (drop 1 fs)
+
+-- the fields that a cursor has yet to hand out
+abbrev pub fields_left : Cursor → List (List ℕ)
+fields_left c = unwrap_or (option_map (λ t. fields t.now) c.rest) []
+
+-- the cursor has passed so many fields
+pub record Passed (n : ℕ) (c c' : Cursor) : Type 0 where
+  pub left_is : fields_left c' ≡ drop n (fields_left c)
+  pub place_is : c'.place ≡ place_after n c.place
+
+-- it hands out the next field, empty where there is none
+pub record Took (c : Cursor) (part : Part) (c' : Cursor) : Type 0 where
+  pub bytes_are : bytes_of part ≡ slice_index_or (fields_left c) 0 []
+  pub place_is : part.place ≡ c.place
+  pub passed : Passed 1 c c'
+
+-- the first field of a text, and the text of the others
+abbrev pub FirstField : List ℕ → Bor (List ℕ) × Option (Bor (List ℕ)) → Type 0
+FirstField text r = fields text ≡ r.0.now ∷ unwrap_or (option_map (λ t. fields t.now) r.1) []

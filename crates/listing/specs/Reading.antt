@@ -1,5 +1,5 @@
 -- What a line means: the first question that says no, or the command that it spells. Assumes nothing.
-use Rattle.std.specs.Prelude.{◌≡◌, ℕ, suc, Bool, true, false, not, List, [], ◌∷◌, ◌++◌, length, is_some, Some, None, Option, Result, MatchResult, ◌==◌, nat_le, slice_index_or}
+use Rattle.std.specs.Prelude.{◌≡◌, ℕ, suc, Bool, true, false, not, List, [], ◌∷◌, ◌++◌, length, drop, is_some, Some, None, Option, Result, MatchResult, ◌==◌, nat_le, slice_index_or}
 use Rattle.fields.specs.declared.faults.FieldFault.{FieldFault}
 use Rattle.fields.specs.declared.faults.LineFault.{LineFault}
 use Rattle.fields.specs.declared.faults.LineFault.TheVariants.{TooLong, UnknownWord, Misplaced, FieldCount, Field}
@@ -50,11 +50,12 @@ opening_forms = natural ∷ kind ∷ []
 abbrev pub opening_questions : ℕ → List ℕ → List (Question LineFault)
 opening_questions number line = line_questions (opens (word_at line)) opening_forms number line
 
+-- the opening that the fields after the word spell
 abbrev pub opening_of : List (List ℕ) → Opening
-opening_of fs = record { variables = value (slice_index_or fs 1 []); kind = named_kind (slice_index_or fs 2 []) }
+opening_of fs = record { variables = value (slice_index_or fs 0 []); kind = named_kind (slice_index_or fs 1 []) }
 
 abbrev pub opening_reply : ℕ → List ℕ → Result Opening LineFault
-opening_reply number line = answered (opening_questions number line) (opening_of (fields line))
+opening_reply number line = answered (opening_questions number line) (opening_of (drop 1 (fields line)))
 
 module _ {E : Type 0} (M : EntryForm E) where
   abbrev pub word_forms : Option Word → List Form
@@ -69,7 +70,7 @@ module _ {E : Type 0} (M : EntryForm E) where
   abbrev pub said_by : Option Word → List (List ℕ) → Option (Said E)
   said_by None fs = None
   said_by (Some Board) fs = None
-  said_by (Some (Call c)) fs = Some (said M c fs)
+  said_by (Some (Call c)) fs = Some (said M c (drop 1 fs))
 
   -- the command that a line spells
   abbrev pub command_of : List ℕ → Option (Said E)

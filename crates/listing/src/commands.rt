@@ -1,10 +1,11 @@
 // Commands to a board, as lines spell them.
 ghost use Rattle.std.specs.Prelude.{◌≡◌, ◌-◌, ◌^◌, min, length};
 ghost use Rattle.fields.specs.declared.words.Call.TheVariants.{One, Pair, Pin, Free, Score};
+ghost use Rattle.listing.specs.Lines.{fields_left};
 ghost use Rattle.listing.specs.Commands.{call_forms, CallReply};
 
 use crate::entries::EntryFields;
-use crate::lines::Line;
+use crate::lines::Cursor;
 use fields::faults::FieldFault;
 use fields::parts::{BoardKind, Part};
 use fields::words::Call;
@@ -56,20 +57,20 @@ pub(crate) fn field_count<E: EntryFields>(call: Call) -> usize
     }
 }
 
-fn read_one<'a, E: EntryFields>(line: Line<'a>) -> Result<Command<'a, E>, FieldFault>
-    ensures { CallReply E.EntryFields.form One line.entry result }
+fn read_one<'a, E: EntryFields>(fields: &mut Cursor<'a>) -> Result<Command<'a, E>, FieldFault>
+    ensures { CallReply E.EntryFields.form One fields.old.place (fields_left fields.old) result }
 {
-    let variable = line.field(1).natural()?;
-    let entries = Two::read(line, 2)?;
+    let variable = fields.take().natural()?;
+    let entries = Two::read(fields)?;
     Ok(Command::One { variable, entries })
 }
 
-fn read_pair<'a, E: EntryFields>(line: Line<'a>) -> Result<Command<'a, E>, FieldFault>
-    ensures { CallReply E.EntryFields.form Pair line.entry result }
+fn read_pair<'a, E: EntryFields>(fields: &mut Cursor<'a>) -> Result<Command<'a, E>, FieldFault>
+    ensures { CallReply E.EntryFields.form Pair fields.old.place (fields_left fields.old) result }
 {
-    let first = line.field(1).natural()?;
-    let second = line.field(2).natural()?;
-    let entries = Two::<Two<E>>::read(line, 3)?;
+    let first = fields.take().natural()?;
+    let second = fields.take().natural()?;
+    let entries = Two::<Two<E>>::read(fields)?;
     Ok(Command::Pair {
         first,
         second,
@@ -77,41 +78,41 @@ fn read_pair<'a, E: EntryFields>(line: Line<'a>) -> Result<Command<'a, E>, Field
     })
 }
 
-fn read_pin<'a, E: EntryFields>(line: Line<'a>) -> Result<Command<'a, E>, FieldFault>
-    ensures { CallReply E.EntryFields.form Pin line.entry result }
+fn read_pin<'a, E: EntryFields>(fields: &mut Cursor<'a>) -> Result<Command<'a, E>, FieldFault>
+    ensures { CallReply E.EntryFields.form Pin fields.old.place (fields_left fields.old) result }
 {
-    let variable = line.field(1).natural()?;
-    let value = line.field(2).natural()?;
+    let variable = fields.take().natural()?;
+    let value = fields.take().natural()?;
     Ok(Command::Pin { variable, value })
 }
 
-fn read_free<'a, E: EntryFields>(line: Line<'a>) -> Result<Command<'a, E>, FieldFault>
-    ensures { CallReply E.EntryFields.form Free line.entry result }
+fn read_free<'a, E: EntryFields>(fields: &mut Cursor<'a>) -> Result<Command<'a, E>, FieldFault>
+    ensures { CallReply E.EntryFields.form Free fields.old.place (fields_left fields.old) result }
 {
-    let variable = line.field(1).natural()?;
+    let variable = fields.take().natural()?;
     Ok(Command::Free { variable })
 }
 
-fn read_score<'a, E: EntryFields>(line: Line<'a>) -> Result<Command<'a, E>, FieldFault>
-    ensures { CallReply E.EntryFields.form Score line.entry result }
+fn read_score<'a, E: EntryFields>(fields: &mut Cursor<'a>) -> Result<Command<'a, E>, FieldFault>
+    ensures { CallReply E.EntryFields.form Score fields.old.place (fields_left fields.old) result }
 {
-    let layout = line.field(1).layout()?;
+    let layout = fields.take().layout()?;
     Ok(Command::Score { layout })
 }
 
 // Reads the fields of a command after its word.
 pub(crate) fn read_call<'a, E: EntryFields>(
-    line: Line<'a>,
+    fields: &mut Cursor<'a>,
     call: Call,
 ) -> Result<Command<'a, E>, FieldFault>
-    ensures { CallReply E.EntryFields.form call line.entry result }
+    ensures { CallReply E.EntryFields.form call fields.old.place (fields_left fields.old) result }
 {
     match call {
-        Call::One => read_one(line),
-        Call::Pair => read_pair(line),
-        Call::Pin => read_pin(line),
-        Call::Free => read_free(line),
+        Call::One => read_one(fields),
+        Call::Pair => read_pair(fields),
+        Call::Pin => read_pin(fields),
+        Call::Free => read_free(fields),
         Call::Back => Ok(Command::Back),
-        Call::Score => read_score(line),
+        Call::Score => read_score(fields),
     }
 }

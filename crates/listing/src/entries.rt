@@ -1,12 +1,11 @@
 // The fields that an entry fills, one for each of its numbers.
-ghost use Rattle.std.specs.Prelude.{◌≡◌, ◌+◌, ◌-◌, ◌^◌, ◌<◌, min, length};
-ghost use Rattle.listing.specs.Text.{fields};
-ghost use Rattle.listing.specs.Lines.{text_of};
+ghost use Rattle.std.specs.Prelude.{◌≡◌, ◌-◌, ◌^◌, min, length, OnOk};
+ghost use Rattle.listing.specs.Lines.{fields_left, Passed};
 ghost use Rattle.listing.specs.Entries.{EntryForm, entry_reply, access_form, slack_form, weighted_form, by_value_form};
 ghost use Rattle.listing.specs.Written.{ReadsBack};
 ghost use Rattle.listing.specs.EntryWriting.{access_back, slack_back, weighted_back, by_value_back};
 
-use crate::lines::Line;
+use crate::lines::Cursor;
 use fields::faults::FieldFault;
 use score::margins::Slack;
 use score::tiers::Weighted;
@@ -21,19 +20,13 @@ pub trait EntryFields: Copy {
     fn field_count() -> usize
         ensures { result ≡ min (length form.forms) (2 ^ 64 - 1) };
 
-    // The entry whose first field has this index, from 0.
-    fn read(line: Line<'_>, index: usize) -> Result<Self, FieldFault>
-        ensures { index + length form.forms < 2 ^ 64 → result ≡ entry_reply form line.entry.number index (fields (text_of line.entry)) };
+    // The entry that the next fields spell.
+    fn read(fields: &mut Cursor<'_>) -> Result<Self, FieldFault>
+        ensures reply { result ≡ entry_reply form fields.old.place (fields_left fields.old) }
+        ensures passed { OnOk result (Passed (length form.forms) fields.old fields.new) };
 
     // an entry that is written into fields is read back from them
     ghost back: { ReadsBack form };
-}
-
-// The index of the field that stands so many fields further on.
-fn onward(index: usize, count: usize) -> usize
-    ensures { index + count < 2 ^ 64 → result ≡ index + count }
-{
-    index.saturating_add(count)
 }
 
 const ACCESS_FIELDS: usize = 2;
@@ -49,9 +42,9 @@ impl EntryFields for Access {
         ACCESS_FIELDS
     }
 
-    fn read(line: Line<'_>, index: usize) -> Result<Access, FieldFault> {
-        let hits = line.field(index).natural()?;
-        let cycles = line.field(onward(index, 1)).integer()?;
+    fn read(fields: &mut Cursor<'_>) -> Result<Access, FieldFault> {
+        let hits = fields.take().natural()?;
+        let cycles = fields.take().integer()?;
         Ok(Access { hits, cycles })
     }
 }
@@ -65,8 +58,8 @@ impl EntryFields for Slack {
         SLACK_FIELDS
     }
 
-    fn read(line: Line<'_>, index: usize) -> Result<Slack, FieldFault> {
-        let margin = line.field(index).integer()?;
+    fn read(fields: &mut Cursor<'_>) -> Result<Slack, FieldFault> {
+        let margin = fields.take().integer()?;
         Ok(Slack { margin })
     }
 }
@@ -80,9 +73,9 @@ impl<E: EntryFields> EntryFields for Weighted<E> {
         E::field_count().saturating_add(1)
     }
 
-    fn read(line: Line<'_>, index: usize) -> Result<Weighted<E>, FieldFault> {
-        let weight = line.field(index).integer()?;
-        let second = E::read(line, onward(index, 1))?;
+    fn read(fields: &mut Cursor<'_>) -> Result<Weighted<E>, FieldFault> {
+        let weight = fields.take().integer()?;
+        let second = E::read(fields)?;
         Ok(Weighted { weight, second })
     }
 }
@@ -96,9 +89,9 @@ impl<E: EntryFields> EntryFields for Two<E> {
         E::field_count().saturating_mul(2)
     }
 
-    fn read(line: Line<'_>, index: usize) -> Result<Two<E>, FieldFault> {
-        let zero = E::read(line, index)?;
-        let one = E::read(line, onward(index, E::field_count()))?;
+    fn read(fields: &mut Cursor<'_>) -> Result<Two<E>, FieldFault> {
+        let zero = E::read(fields)?;
+        let one = E::read(fields)?;
         Ok(Two { zero, one })
     }
 }

@@ -1,9 +1,10 @@
 // A line of a listing, and its fields.
-ghost use Rattle.std.specs.Prelude.{◌≡◌, ◌+◌, ◌^◌, ◌<◌, [], slice_index_or};
+ghost use Rattle.std.specs.Prelude.{◌≡◌, ◌+◌, ◌^◌, ◌<◌, [], drop, slice_index_or};
 ghost use Rattle.fields.specs.Forms.{bytes_of};
 ghost use Rattle.listing.specs.Text.{fields, TextLaws};
-ghost use Rattle.listing.specs.Lines.{text_of, place_at};
+ghost use Rattle.listing.specs.Lines.{text_of, place_at, fields_left, Took, FirstField};
 
+use fields::cutting::{head, tail};
 use fields::faults::Place;
 use fields::parts::Part;
 
@@ -16,18 +17,15 @@ pub struct Line<'a> {
     pub number: usize,
 }
 
-impl<'a> Line<'a> {
-    // The place of the field with this index, from 0. Places are counted from 1.
-    fn place(self, index: usize) -> Place
-        ensures { index + 1 < 2 ^ 64 → result ≡ place_at self.entry.number index }
-    {
-        Place {
-            line: self.number,
-            field: index.saturating_add(1),
-        }
-    }
+// The fields of a line that are yet to be handed out, and the place of the first of them.
+#[derive(Clone, Copy)]
+pub struct Cursor<'a> {
+    rest: Option<&'a [u8]>,
+    place: Place,
+}
 
-    // The field with this index, from 0; empty where there is none.
+impl<'a> Line<'a> {
+    // The field with this index, from 0; empty where there is none. Places are counted from 1.
     pub fn field(self, index: usize) -> Part<'a>
         ensures bytes { bytes_of result ≡ slice_index_or (fields (text_of self.entry)) index [] }
         ensures place { index + 1 < 2 ^ 64 → result.place ≡ place_at self.entry.number index }
@@ -35,8 +33,56 @@ impl<'a> Line<'a> {
         let bytes = self.text.split(|b| *b == COMMA).nth(index).unwrap_or(&[]);
         Part {
             bytes,
-            place: self.place(index),
+            place: Place {
+                line: self.number,
+                field: index.saturating_add(1),
+            },
         }
+    }
+
+    // The fields after the word.
+    pub(crate) fn after_word(self) -> Cursor<'a>
+        ensures left { fields_left result ≡ drop 1 (fields (text_of self.entry)) }
+        ensures place { result.place ≡ place_at self.entry.number 1 }
+    {
+        let mut cursor = Cursor {
+            rest: Some(self.text),
+            place: Place {
+                line: self.number,
+                field: 1,
+            },
+        };
+        let _word = cursor.take();
+        cursor
+    }
+}
+
+// A field, and what stands after its comma; `None` where there is no comma.
+#[tactic(auto, using(crate::proofs::Splitting::pieces_cut, crate::proofs::Splitting::pieces_only))]
+fn first_field(text: &[u8]) -> (&[u8], Option<&[u8]>)
+    ensures { FirstField text.now result }
+{
+    let field = head(text, COMMA);
+    if field.len() < text.len() {
+        (field, Some(tail(text, COMMA)))
+    } else {
+        (field, None)
+    }
+}
+
+impl<'a> Cursor<'a> {
+    // Hands out the next field; it is empty where there is none.
+    pub fn take(&mut self) -> Part<'a>
+        ensures { Took self.old result self.new }
+    {
+        let place = self.place;
+        let (bytes, rest) = first_field(self.rest.unwrap_or(&[]));
+        self.rest = rest;
+        self.place = Place {
+            line: place.line,
+            field: place.field.saturating_add(1),
+        };
+        Part { bytes, place }
     }
 }
 

@@ -1,8 +1,8 @@
 // Reads a line: its word, its place in the listing, the number of its fields, and then field by field.
-ghost use Rattle.std.specs.Prelude.{◌≡◌, ◌+◌, length, Some, None, MatchResult, ◌==◌};
+ghost use Rattle.std.specs.Prelude.{◌≡◌, ◌+◌, length, drop, Some, None, MatchResult, ◌==◌};
 ghost use Rattle.fields.specs.Questions.{first_no, answered};
 ghost use Rattle.listing.specs.Text.{fields};
-ghost use Rattle.listing.specs.Lines.{text_of, field_questions};
+ghost use Rattle.listing.specs.Lines.{text_of, place_at, questions_from};
 ghost use Rattle.listing.specs.Reading.{word_at, word_questions, opening_forms, opening_of, opening_reply, CommandReply};
 ghost use Rattle.listing.specs.RoundTrip.{OpeningBack, CommandBack};
 
@@ -37,10 +37,11 @@ impl<'a> Line<'a> {
     }
 
     fn board(self) -> Result<Opening, FieldFault>
-        ensures { result ≡ answered (field_questions self.entry.number 1 opening_forms (fields (text_of self.entry))) (opening_of (fields (text_of self.entry))) }
+        ensures { result ≡ answered (questions_from (place_at self.entry.number 1) opening_forms (drop 1 (fields (text_of self.entry)))) (opening_of (drop 1 (fields (text_of self.entry)))) }
     {
-        let variables = self.field(1).natural()?;
-        let kind = self.field(2).board_kind()?;
+        let mut fields = self.after_word();
+        let variables = fields.take().natural()?;
+        let kind = fields.take().board_kind()?;
         Ok(Opening { variables, kind })
     }
 
@@ -65,7 +66,7 @@ impl<'a> Line<'a> {
         if !self.has_fields(field_count::<E>(call)) {
             return Err(LineFault::FieldCount(self.number));
         }
-        Ok(read_call(self, call)?)
+        Ok(read_call(&mut self.after_word(), call)?)
     }
 
     // The line read as the first of a listing.
