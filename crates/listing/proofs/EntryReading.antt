@@ -35,18 +35,11 @@ module _ (c c' : Cursor) (part : Part) (took : Took c part c') (form : Form) whe
         field_yes form c.place forms (fields_left c) (ap first_no (sym asked_so) ∙ (replied_ok _ x v e).0)
         ∙ ap (λ p. first_no (questions_from p forms (drop 1 (fields_left c)))) (sym took.passed.place_is) ∙ ap (λ l. first_no (questions_from c'.place forms l)) (sym took.passed.left_is)
 
-    module _ {A : Type 0} (w : A) where
-      pub read_no : (f : FieldFault) → Err f ≡ answered (asked form part.place (bytes_of part)) v → Err f ≡ answered (asked_at c (form ∷ forms)) w
-      read_no f e = ap (λ o. replied o w) (sym (no_at f e))
-
-      pub read_yes : (x : V) → Ok x ≡ answered (asked form part.place (bytes_of part)) v → answered (asked_at c' forms) w ≡ answered (asked_at c (form ∷ forms)) w
-      read_yes x e = ap (λ o. replied o w) (sym (yes_at x e))
-
   -- the value that is read
   pub read_is : {V : Type 0} (meant : List ℕ → V) (x : V) → Ok x ≡ answered (asked form part.place (bytes_of part)) (meant (bytes_of part)) → x ≡ meant (get_or (fields_left c) 0 [])
   read_is meant x e = (replied_ok _ x (meant (bytes_of part)) e).1 ∙ ap meant took.bytes_are
 
--- a field further on
+-- the field after one that was handed out
 pub second_is : (c c' : Cursor) → Passed 1 c c' → get_or (fields_left c') 0 [] ≡ get_or (fields_left c) 1 []
 second_is c c' passed = ap (λ l. get_or l 0 []) passed.left_is ∙ get_or_after_one (fields_left c) 0 []
 
@@ -87,3 +80,7 @@ module _ {E : Type 0} (M : EntryForm E) (c c' : Cursor) where
 -- the exit of a `?` that hands on the fault unchanged
 pub exits : {A F : Type 0} (r : Result A F) (f : F) (P : A → Type 0) (Q : F → Type 0) → IsErrAnd r (λ g. g ≡ f) → Q f → MatchResult r P Q
 exits r f P Q h q = let p = err_from_is_err_and r h in subst (λ x. MatchResult x P Q) (sym (p.1 ∙ ap Err p.2)) q
+
+-- the fields after two that were handed out
+pub third_on : (c c' c'' : Cursor) → Passed 1 c c' → Passed 1 c' c'' → fields_left c'' ≡ drop 2 (fields_left c)
+third_on c c' c'' a b = (passed_both 1 1 c c' c'' a b).left_is

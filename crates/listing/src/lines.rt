@@ -18,7 +18,7 @@ pub struct Line<'a> {
 }
 
 // The fields of a line that are yet to be handed out, and the place of the first of them.
-#[derive(Clone, Copy)]
+#[derive(Drop)]
 pub struct Cursor<'a> {
     rest: Option<&'a [u8]>,
     place: Place,
@@ -40,18 +40,26 @@ impl<'a> Line<'a> {
         }
     }
 
-    // The fields after the word.
-    pub(crate) fn after_word(self) -> Cursor<'a>
-        ensures left { fields_left result ≡ drop 1 (fields (text_of self.entry)) }
-        ensures place { result.place ≡ place_at self.entry.number 1 }
+    // All fields, one after another.
+    pub fn fields(self) -> Cursor<'a>
+        ensures left { fields_left result ≡ fields (text_of self.entry) }
+        ensures place { result.place ≡ place_at self.entry.number 0 }
     {
-        let mut cursor = Cursor {
+        Cursor {
             rest: Some(self.text),
             place: Place {
                 line: self.number,
                 field: 1,
             },
-        };
+        }
+    }
+
+    // The fields after the word.
+    pub(crate) fn after_word(self) -> Cursor<'a>
+        ensures left { fields_left result ≡ drop 1 (fields (text_of self.entry)) }
+        ensures place { result.place ≡ place_at self.entry.number 1 }
+    {
+        let mut cursor = self.fields();
         let _word = cursor.take();
         cursor
     }
