@@ -1,3 +1,4 @@
+pub mod Among
 pub mod EntryReading
 pub mod LineReading
 pub mod ListingReading

@@ -38,9 +38,6 @@ few_fields : (number : ℕ) (line : List ℕ) → first_no (word_questions numbe
 few_fields number line h = omega (arith, length-slice_split (λ b. eqb b comma) line, count_by-le-length (λ b. eqb b comma) line, word_short number line h)
 
 module _ (number : ℕ) (line : List ℕ) where
-  pub word_no : (placed : Bool) (forms : List Form) (f : LineFault) → first_no (word_questions number line) ≡ Some f → first_no (line_questions placed forms number line) ≡ Some f
-  word_no placed forms f h = first_among (word_questions number line) ((placed, Misplaced number) ∷ (eqb (length (fields line)) (suc (length forms)), FieldCount number) ∷ inside (field_questions number 1 forms (fields line))) f h
-
   -- where word, place and count are right, the fields are left
   pub line_yes : (forms : List Form) → first_no (word_questions number line) ≡ None → length (fields line) ≡ suc (length forms) → first_no (line_questions true forms number line) ≡ option_map Field (first_no (questions_from (place_at number 1) forms (drop 1 (fields line))))
   line_yes forms h e =
@@ -49,24 +46,11 @@ module _ (number : ℕ) (line : List ℕ) where
       ∙ first_inside (field_questions number 1 forms (fields line))
       ∙ ap (λ qs. option_map Field (first_no qs)) (sym (from_index number 1 forms (fields line) (omega (arith, few_fields number line h))))
 
-  -- where the word is read and the line may not stand here, or has another number of fields
-  place_no : (forms : List Form) → first_no (word_questions number line) ≡ None → first_no (line_questions false forms number line) ≡ Some (Misplaced number)
-  place_no forms h =
-      first_after (word_questions number line) ((false, Misplaced number) ∷ (eqb (length (fields line)) (suc (length forms)), FieldCount number) ∷ inside (field_questions number 1 forms (fields line))) h
-
+  -- where it has another number of fields
   count_no : (forms : List Form) → first_no (word_questions number line) ≡ None → (length (fields line) ≡ suc (length forms) → ⊥) → first_no (line_questions true forms number line) ≡ Some (FieldCount number)
   count_no forms h e =
       first_after (word_questions number line) ((true, Misplaced number) ∷ (eqb (length (fields line)) (suc (length forms)), FieldCount number) ∷ inside (field_questions number 1 forms (fields line))) h
       ∙ ap (λ t. cond t (first_no (inside (field_questions number 1 forms (fields line)))) (Some (FieldCount number))) (ne_eqb _ _ e)
-
-  pub opening_place_no : (call : CallWord) → first_no (word_questions number line) ≡ None → word_at line ≡ Some (Call call) → first_no (opening_questions number line) ≡ Some (Misplaced number)
-  opening_place_no call h w = ap (λ x. first_no (line_questions (opens x) opening_forms number line)) w ∙ place_no opening_forms h
-
-  pub opening_count_no : first_no (word_questions number line) ≡ None → word_at line ≡ Some Board → (length (fields line) ≡ suc (length opening_forms) → ⊥) → first_no (opening_questions number line) ≡ Some (FieldCount number)
-  opening_count_no h w e = ap (λ x. first_no (line_questions (opens x) opening_forms number line)) w ∙ count_no opening_forms h e
-
-  pub command_place_no : {E : Type 0} (M : EntryForm E) → first_no (word_questions number line) ≡ None → word_at line ≡ Some Board → first_no (command_questions M number line) ≡ Some (Misplaced number)
-  command_place_no M h w = ap (λ x. first_no (line_questions (not (opens x)) (word_forms M x) number line)) w ∙ place_no [] h
 
   pub opening_yes : first_no (word_questions number line) ≡ None → word_at line ≡ Some Board → length (fields line) ≡ suc (length opening_forms) → first_no (opening_questions number line) ≡ option_map Field (first_no (questions_from (place_at number 1) opening_forms (drop 1 (fields line))))
   opening_yes h w e = ap (λ x. first_no (line_questions (opens x) opening_forms number line)) w ∙ line_yes opening_forms h e

@@ -33,15 +33,6 @@ lines_next bs h =
     (λ none. ap ended (pieces_only line_feed bs none) ∙ ended_one (upto line_feed bs) (omega arith) ∙ ap (λ l. upto line_feed bs ∷ lines l) (sym (past_none line_feed bs none)))
     (cases_lt (length (upto line_feed bs)) (length bs))
 
-pub past_shorter : (cut : ℕ) (bs : List ℕ) → 0 < length bs → suc (length (past cut bs)) ≤ length bs
-past_shorter cut bs h = omega (arith, length-drop (position_or_len (λ b. eqb b cut) bs + 1) bs)
-
--- one line more
-pub next_none : (s : Reader) → length s.rest.now ≡ 0 → NextLine s s None
-next_none s e =
-    let none : left s ≡ [] = ap lines (nil_from_length s.rest.now e) in
-    subst (λ ls. NextLineBy ls s s None) (sym none) (refl, none, refl)
-
 pub next_some : (s s' : Reader) (x : LineText) → 0 < length s.rest.now → text_of x ≡ upto line_feed s.rest.now → x.number ≡ s.line + 1 → s'.rest.now ≡ past line_feed s.rest.now → s'.line ≡ s.line + 1 → NextLine s s' (Some x)
 next_some s s' x more is_text numbered is_rest counted =
     subst (λ ls. NextLineBy ls s s' (Some x)) (sym (lines_next s.rest.now more)) ((is_text, numbered), ap lines is_rest, counted)

@@ -48,7 +48,7 @@ module _ (form : Form) (p : Place) (forms : List Form) (fs : List (List ℕ)) wh
   pub field_no : (f : FieldFault) → first_no (asked form p (get_or fs 0 [])) ≡ Some f → first_no (questions_from p (form ∷ forms) fs) ≡ Some f
   field_no f e = first_among (asked form p (get_or fs 0 [])) (questions_from (next_place p) forms (drop 1 fs)) f e
 
-first_dropped : (i : ℕ) (fs : List (List ℕ)) → get_or (drop i fs) 0 [] ≡ get_or fs i []
+pub first_dropped : (i : ℕ) (fs : List (List ℕ)) → get_or (drop i fs) 0 [] ≡ get_or fs i []
 first_dropped i fs = get_or-drop i fs 0 [] ∙ ap (λ k. get_or fs k []) (let z : i + 0 ≡ i = omega arith in z)
 
 ++-right_assoc : {A : Type 0} (xs ys zs : List A) → (xs ++ ys) ++ zs ≡ xs ++ (ys ++ zs)

@@ -1,5 +1,6 @@
 // Reads a listing line by line. The reader borrows the listing, and what it hands out are parts of it.
 ghost use Rattle.std.specs.Prelude.{◌+◌, ◌≤◌, length};
+ghost use Rattle.listing.specs.declared.reader.TheConstants.{LISTING_BYTES};
 
 use crate::commands::{Command, Opening};
 use crate::entries::EntryFields;
@@ -18,7 +19,7 @@ pub struct Reader<'a> {
     rest: &'a [u8],
     // how many lines were read
     line: usize,
-    ghost few: { line + length rest.now ≤ 65536 },
+    ghost few: { line + length rest.now ≤ LISTING_BYTES },
 }
 
 impl<'a> Reader<'a> {

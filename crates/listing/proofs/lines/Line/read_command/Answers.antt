@@ -7,9 +7,6 @@ use Rattle.listing.proofs.EntryReading.{exits}
 use Rattle.listing.proofs.LineReading.{from_word, right_count, wrong_count, command_place_no, command_count_no, command_yes, command_is}
 use Rattle.listing.proofs.lines.Line.read_command.Goals as goal
 
-pub returns-in_default : goal.returns-in_default
-returns-in_default g c = let word = c.in_ok-call.ensures in command_place_no c.args.self.number (text_of c.args.self) g.E.EntryFields.form word.0 (word.1 ∙ ap Some c.in_default.is)
-
 pub returns-then-not-has_fields : goal.returns-then-not-has_fields
 returns-then-not-has_fields g c =
     let word = c.in_ok-call.ensures in

@@ -2,9 +2,6 @@ use Rattle.std.proofs.Common.{◌<◌, length, refl, arith, true-eqb, false-eqb}
 use Rattle.listing.proofs.ListingReading.{next_none, next_some}
 use Rattle.listing.proofs.reader.Reader.next_line.Goals as goal
 
-pub returns-then-is_empty : goal.returns-then-is_empty
-returns-then-is_empty c = next_none c.args.self.now (true-eqb _ 0 c.if-is_empty.ensures)
-
 pub returns : goal.returns
 returns c =
     let left = false-eqb _ 0 c.if-is_empty.ensures in
