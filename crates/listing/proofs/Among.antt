@@ -4,7 +4,6 @@ use Rattle.std.specs.List.{AllByRecursion}
 use Rattle.std.proofs.lemmas.List.{drop-drop}
 use Rattle.std.proofs.Math.Seq.{drop-append_seam}
 use Rattle.fields.specs.declared.faults.Place.{Place}
-use Rattle.fields.specs.declared.faults.FieldFault.{FieldFault}
 use Rattle.fields.specs.Questions.{Question, first_no}
 use Rattle.fields.specs.Forms.{Form, natural, integer, layout, kind, asked}
 use Rattle.listing.specs.Lines.{place_at, field_questions, next_place, questions_from}

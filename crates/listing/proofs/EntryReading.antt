@@ -1,5 +1,5 @@
 -- An entry is read field by field. Assumes nothing.
-use Rattle.std.proofs.Common.{◌≡◌, ℕ, zero, suc, ◌+◌, List, [], ◌∷◌, ◌++◌, length, get_or, drop, IsErrAnd, Some, Ok, Err, Result, sym, ap, ◌∙◌, refl, subst, arith, MatchResult, length-append}
+use Rattle.std.proofs.Common.{◌≡◌, ℕ, zero, suc, ◌+◌, List, [], ◌∷◌, ◌++◌, length, get_or, drop, IsErrAnd, Some, Ok, Err, Result, sym, ap, ◌∙◌, subst, arith, MatchResult}
 use Rattle.std.proofs.lemmas.List.{drop-drop}
 use Rattle.std.proofs.lemmas.Grind.{get_or_after_one}
 use Rattle.std.proofs.lemmas.Result.{err_from_is_err_and}

@@ -1,5 +1,5 @@
 -- A line is read: its word, its place, the number of its fields, and then the fields. Assumes nothing.
-use Rattle.std.proofs.Common.{◌≡◌, ℕ, suc, Bor, ◌+◌, ◌-◌, ◌^◌, ◌<◌, ◌≤◌, min, Bool, true, false, cond, not, eqb, leb, List, [], ◌∷◌, length, drop, sym, is_some, Some, None, Option, refl, ap, ◌∙◌, arith, eq-eqb, ne_eqb, leb-true, true-eqb, false-eqb}
+use Rattle.std.proofs.Common.{◌≡◌, ℕ, suc, Bor, ◌+◌, ◌-◌, ◌^◌, ◌≤◌, min, Bool, true, false, cond, not, eqb, leb, List, [], ◌∷◌, length, drop, sym, is_some, Some, None, Option, refl, ap, ◌∙◌, arith, eq-eqb, ne_eqb, leb-true, true-eqb, false-eqb}
 use Rattle.std.specs.Option.{option_map, unwrap_or}
 use Rattle.fields.specs.declared.faults.FieldFault.{FieldFault}
 use Rattle.fields.specs.declared.faults.LineFault.{LineFault}
@@ -16,7 +16,7 @@ use Rattle.listing.specs.Lines.{place_at, field_questions, questions_from, field
 use Rattle.listing.specs.Entries.{EntryForm}
 use Rattle.listing.specs.Commands.{said, call_forms}
 use Rattle.listing.specs.Reading.{line_limit, word_at, word_questions, inside, line_questions, opens, opening_forms, opening_questions, word_forms, command_questions, said_by, command_of}
-use Rattle.listing.specs.Asked.{first_after, first_among, from_index}
+use Rattle.listing.specs.Asked.{first_after, from_index}
 
 inside_by : (t : Bool) (f : FieldFault) (o : Option LineFault) (o' : Option FieldFault) → o ≡ option_map Field o' → cond t o (Some (Field f)) ≡ option_map Field (cond t o' (Some f))
 inside_by true f o o' e = e

@@ -1,13 +1,10 @@
 -- A listing is read line by line. Assumes nothing.
-use Rattle.std.proofs.Common.{◌≡◌, ℕ, suc, ◌+◌, ◌<◌, ◌≤◌, eqb, leb, List, [], ◌∷◌, length, drop, Some, None, Ok, Err, Option, Result, sym, ⊎_elim, refl, ap, ◌∙◌, subst, arith, le-leb}
-use Rattle.std.proofs.lemmas.List.{drop-drop, nil_from_length, drop_all, take_all, length-drop}
+use Rattle.std.proofs.Common.{◌≡◌, ℕ, ◌+◌, ◌<◌, ◌≤◌, leb, List, [], ◌∷◌, length, drop, Some, Ok, Err, Option, Result, sym, ⊎_elim, refl, ap, ◌∙◌, subst, arith, le-leb}
+use Rattle.std.proofs.lemmas.List.{drop-drop}
 use Rattle.std.proofs.lemmas.Bool.{cond-true}
 use Rattle.fields.specs.declared.faults.LineFault.{LineFault}
 use Rattle.fields.specs.declared.faults.ListingFault.TheVariants.{TooLarge, Line}
 use Rattle.fields.specs.Text.{upto, past}
-use Rattle.std.specs.List.{position_or_len}
-use Rattle.std.proofs.lemmas.List.Splits.{slice_split_first, slice_split_none}
-use Rattle.std.proofs.lemmas.List.Sums.{fails_before_first}
 use Rattle.std.proofs.lemmas.Bool.{cases_lt}
 use Rattle.listing.specs.declared.commands.Opening.{Opening}
 use Rattle.listing.specs.declared.lines.Line.{Line as LineText}

@@ -1,5 +1,5 @@
 -- How an entry is written into fields and read from them. Assumes nothing.
-use Rattle.std.specs.Prelude.{ℕ, ◌+◌, Bool, ◌&&◌, List, [], ◌∷◌, ◌++◌, length, drop, decimal, Result, slice_index_or}
+use Rattle.std.specs.Prelude.{ℕ, Bool, ◌&&◌, List, [], ◌∷◌, ◌++◌, length, drop, decimal, Result, slice_index_or}
 use Rattle.std.specs.Fmt.{signed_decimal}
 use Rattle.score.specs.declared.margins.Slack.{Slack}
 use Rattle.score.specs.declared.tiers.Weighted.{Weighted}

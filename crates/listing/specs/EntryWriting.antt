@@ -1,10 +1,10 @@
 -- An entry that is written into fields is read back. Assumes nothing.
-use Rattle.std.proofs.Common.{◌≡◌, ℕ, suc, ◌+◌, true, List, [], ◌∷◌, ◌++◌, length, drop, None, decimal, sym, refl, ap, ◌∙◌, append_assoc, append-nil, arith, length-append}
+use Rattle.std.proofs.Common.{◌≡◌, ℕ, suc, true, List, [], ◌∷◌, ◌++◌, length, drop, None, decimal, sym, refl, ap, ◌∙◌, append_assoc, append-nil, arith, length-append}
 use Rattle.std.specs.Fmt.{signed_decimal}
 use Rattle.std.proofs.ByRecursion.{All-append}
 use Rattle.std.proofs.Math.Seq.{drop-append_seam}
 use Rattle.std.proofs.lemmas.Bool.{and_parts}
-use Rattle.fields.specs.Values.{value, signed_value, natural_range, integer_range}
+use Rattle.fields.specs.Values.{natural_range, integer_range}
 use Rattle.fields.specs.Questions.{first_no}
 use Rattle.fields.specs.Forms.{Form, natural, integer, asked}
 use Rattle.score.specs.declared.values.Two.{Two}

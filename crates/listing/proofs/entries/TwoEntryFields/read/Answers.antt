@@ -1,4 +1,4 @@
-use Rattle.std.proofs.Common.{length, ◌+◌, ap, subst, sym, length-append}
+use Rattle.std.proofs.Common.{length, subst, sym, length-append}
 use Rattle.listing.specs.Lines.{Passed}
 use Rattle.listing.proofs.EntryReading.{passed_on, zero_no, one_no, both_yes, passed_both}
 use Rattle.listing.proofs.entries.TwoEntryFields.read.Goals as goal

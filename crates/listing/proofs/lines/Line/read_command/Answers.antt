@@ -1,10 +1,10 @@
-use Rattle.std.proofs.Common.{◌≡◌, drop, Some, sym, ap, ◌∙◌}
+use Rattle.std.proofs.Common.{Some, sym, ap, ◌∙◌}
 use Rattle.std.specs.Option.{option_map}
 use Rattle.fields.specs.declared.faults.LineFault.TheVariants.{Field}
 use Rattle.listing.specs.Lines.{text_of}
 use Rattle.listing.specs.Commands.{said, call_forms}
 use Rattle.listing.proofs.EntryReading.{exits}
-use Rattle.listing.proofs.LineReading.{from_word, right_count, wrong_count, command_place_no, command_count_no, command_yes, command_is}
+use Rattle.listing.proofs.LineReading.{from_word, right_count, wrong_count, command_count_no, command_yes, command_is}
 use Rattle.listing.proofs.lines.Line.read_command.Goals as goal
 
 pub returns-then-not-has_fields : goal.returns-then-not-has_fields

@@ -1,13 +1,12 @@
-use Rattle.std.proofs.Common.{◌≡◌, length, drop, Some, Ok, sym, ap, ◌∙◌, true-eqb, false-eqb}
+use Rattle.std.proofs.Common.{◌≡◌, length, drop, Some, Ok, sym, ap, ◌∙◌, true-eqb}
 use Rattle.std.specs.Option.{option_map}
 use Rattle.fields.specs.declared.faults.LineFault.TheVariants.{Field}
 use Rattle.fields.specs.Questions.{replied}
 use Rattle.listing.specs.Text.{fields}
 use Rattle.listing.specs.Lines.{text_of}
-use Rattle.listing.specs.Reading.{opening_forms, opening_of}
-use Rattle.listing.specs.Asked.{replied_ok, replied_err}
-use Rattle.listing.proofs.EntryReading.{passed_on}
-use Rattle.listing.proofs.LineReading.{word_no, opening_place_no, opening_count_no, opening_yes}
+use Rattle.listing.specs.Reading.{opening_of}
+use Rattle.listing.specs.Asked.{replied_ok}
+use Rattle.listing.proofs.LineReading.{opening_yes}
 use Rattle.listing.proofs.lines.Line.read_opening.Goals as goal
 
 pub returns : goal.returns

@@ -1,5 +1,5 @@
-use Rattle.std.proofs.Common.{◌<◌, length, refl, arith, true-eqb, false-eqb}
-use Rattle.listing.proofs.ListingReading.{next_none, next_some}
+use Rattle.std.proofs.Common.{◌<◌, length, refl, arith, false-eqb}
+use Rattle.listing.proofs.ListingReading.{next_some}
 use Rattle.listing.proofs.reader.Reader.next_line.Goals as goal
 
 pub returns : goal.returns
