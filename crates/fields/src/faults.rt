@@ -58,7 +58,7 @@ impl From<LineFault> for ListingFault {
     }
 }
 
-// The reply to a fault: the numbers of its line and its field, 0 where no single one is meant, and the number of the question that said no.
+// The reply to a fault: the numbers of its line and its field, 0 where no single one is meant, and the number of the question that said no. It is what a program prints.
 #[derive(Clone, Copy)]
 pub struct Bad {
     pub line: usize,
@@ -125,6 +125,7 @@ impl From<ListingFault> for Bad {
 }
 
 impl ListingFault {
+    // The same conversion, as a method for callers.
     pub fn reply(self) -> Bad
         ensures { result ≡ listing_bad self }
     {

@@ -62,7 +62,7 @@ fn value_of(digits: &[u8]) -> u64
 }
 
 impl<'a> Part<'a> {
-    // The bytes after any minus.
+    // The bytes after any minus. The first byte is taken by let .. else, a rule of the project.
     fn unsigned(self) -> Result<&'a [u8], FieldFault>
         ensures { MatchResult result (λ ds. (ds.now ≡ unsigned (bytes_of self.entry)) × (0 < length (unsigned (bytes_of self.entry)))) (λ f. (length (unsigned (bytes_of self.entry)) ≡ 0) × (f ≡ Empty self.entry.place)) }
     {
@@ -78,7 +78,7 @@ impl<'a> Part<'a> {
         Ok(rest)
     }
 
-    // A number from 0 to 4,294,967,295.
+    // A number from 0 to 4,294,967,295. Unlike `integer`, which is no twin, it takes no minus.
     pub fn natural(self) -> Result<u32, FieldFault>
         ensures { result ≡ answered (asked natural self.entry.place (bytes_of self.entry)) (value (bytes_of self.entry)) }
     {
@@ -127,7 +127,7 @@ impl<'a> Part<'a> {
         Ok(self)
     }
 
-    // The letter of a board's kind.
+    // The letter of a board's kind, matched as a char, a rule of the project.
     pub fn board_kind(self) -> Result<BoardKind, FieldFault>
         ensures { result ≡ answered (asked kind self.entry.place (bytes_of self.entry)) (named_kind (bytes_of self.entry)) }
     {

@@ -25,7 +25,7 @@ pub struct Cursor<'a> {
 }
 
 impl<'a> Line<'a> {
-    // The field with this index, from 0; empty where there is none. Places are counted from 1.
+    // The field with this index, from 0; empty where there is none. Places are counted from 1, so the place is right where its number fits.
     pub fn field(self, index: usize) -> Part<'a>
         ensures bytes { bytes_of result ≡ slice_index_or (fields (text_of self.entry)) index [] }
         ensures place { index + 1 < 2 ^ 64 → result.place ≡ place_at self.entry.number index }

@@ -125,6 +125,7 @@ fn replies(heap: Global, text: &[u8]) -> Result<String, AllocError> {
         Ok(None) => format!(in heap; "nothing"),
         Ok(Some((opening, mut reader))) => {
             let mut out = format!(in heap; "{}", Shown(opening))?;
+            // Each kind's entries have a type of their own, so each case names one.
             match opening.kind {
                 BoardKind::Total => add_commands::<Access>(&mut reader, &mut out)?,
                 BoardKind::Worst => add_commands::<Slack>(&mut reader, &mut out)?,
