@@ -20,10 +20,12 @@ pub struct Opening {
 
 #[derive(Drop)]
 pub enum Command<'a, E> {
+    // an entry for each value of a variable
     One {
         variable: u32,
         entries: Two<E>,
     },
+    // an entry for each values of two variables, the first one's value first
     Pair {
         first: u32,
         second: u32,
