@@ -50,7 +50,7 @@ where
 {
     for command in iter::from_fn(|| reader.command::<K::Entry>().transpose()).take(MOST_LINES) {
         match command {
-            Ok(command) => match answer(rt.alloc(), board, command)? {
+            Ok(command) => match answer(rt.alloc(), board, &command)? {
                 Ok(reply) => println!(rt; "{reply}")?,
                 Err(refusal) => println!(rt; "{refusal}")?,
             },

@@ -8,6 +8,7 @@ use Rattle.fields.specs.Values.{value}
 use Rattle.fields.specs.Questions.{first_no}
 use Rattle.fields.specs.Forms.{Form, natural, layout, bytes_of}
 use Rattle.listing.specs.declared.commands.Command.{Command}
+use Rattle.calls.specs.declared.changes.Change.TheVariants as changes
 use Rattle.listing.specs.declared.commands.Command.TheVariants as commands
 use Rattle.score.specs.declared.values.Two.{Two}
 use Rattle.score.specs.declared.values.Four.{Four}
@@ -29,10 +30,10 @@ two_of f = record { zero = record { zero = f.at00; one = f.at01 }; one = record 
 
 -- what a command in the program says
 abbrev pub says : {E : Type 0} → Command E → Said E
-says (commands.One v es) = one v es
-says (commands.Pair a b f) = pair a b (two_of f)
-says (commands.Pin v x) = pin v x
-says (commands.Free v) = free v
+says (commands.Post (changes.One v es)) = one v es
+says (commands.Post (changes.Pair a b f)) = pair a b (two_of f)
+says (commands.Post (changes.Pin v x)) = pin v x
+says (commands.Post (changes.Free v)) = free v
 says commands.Back = back
 says (commands.Score p) = score (bytes_of p)
 

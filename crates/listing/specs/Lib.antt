@@ -9,3 +9,4 @@ pub mod Reading
 pub mod RoundTrip
 pub mod Text
 pub mod Written
+pub mod Calls

@@ -2,10 +2,12 @@
 ghost use Rattle.std.specs.Prelude.{◌≡◌, ◌-◌, ◌^◌, min, length};
 ghost use Rattle.fields.specs.declared.words.Call.TheVariants.{One, Pair, Pin, Free, Score};
 ghost use Rattle.listing.specs.Lines.{fields_left};
+ghost use Rattle.listing.specs.Calls.{call_of};
 ghost use Rattle.listing.specs.Commands.{call_forms, CallReply};
 
 use crate::entries::EntryFields;
 use crate::lines::Cursor;
+use calls::changes::Change;
 use fields::faults::FieldFault;
 use fields::parts::{BoardKind, Part};
 use fields::words::Call;
@@ -18,31 +20,26 @@ pub struct Opening {
     pub kind: BoardKind,
 }
 
-#[derive(Drop)]
+// A line after the first. A post is a change to a board.
+#[derive(Clone, Copy)]
 pub enum Command<'a, E> {
-    // an entry for each value of a variable
-    One {
-        variable: u32,
-        entries: Two<E>,
-    },
-    // an entry for each values of two variables, the first one's value first
-    Pair {
-        first: u32,
-        second: u32,
-        entries: Four<E>,
-    },
-    Pin {
-        variable: u32,
-        value: u32,
-    },
-    Free {
-        variable: u32,
-    },
+    Post(Change<E>),
     Back,
     // a digit for each variable
-    Score {
-        layout: Part<'a>,
-    },
+    Score { layout: Part<'a> },
+}
+
+// The call that a command spells.
+impl<'a, E: Copy> From<&Command<'a, E>> for calls::changes::Call<E> {
+    ghost from_gives = { λ c r. r ≡ call_of c.now };
+
+    fn from(command: &Command<'a, E>) -> calls::changes::Call<E> {
+        match command {
+            Command::Post(change) => calls::changes::Call::Post(*change),
+            Command::Back => calls::changes::Call::Back,
+            Command::Score { .. } => calls::changes::Call::Score,
+        }
+    }
 }
 
 // How many fields stand after the word of a command.
@@ -62,37 +59,33 @@ pub(crate) fn field_count<E: EntryFields>(call: Call) -> usize
 fn read_one<'a, E: EntryFields>(fields: &mut Cursor<'a>) -> Result<Command<'a, E>, FieldFault>
     ensures { CallReply E.EntryFields.form One fields.old.place (fields_left fields.old) result }
 {
-    let variable = fields.take().natural()?;
+    let v = fields.take().natural()?;
     let entries = Two::read(fields)?;
-    Ok(Command::One { variable, entries })
+    Ok(Command::Post(Change::One { v, entries }))
 }
 
 fn read_pair<'a, E: EntryFields>(fields: &mut Cursor<'a>) -> Result<Command<'a, E>, FieldFault>
     ensures { CallReply E.EntryFields.form Pair fields.old.place (fields_left fields.old) result }
 {
-    let first = fields.take().natural()?;
-    let second = fields.take().natural()?;
-    let entries = Two::<Two<E>>::read(fields)?;
-    Ok(Command::Pair {
-        first,
-        second,
-        entries: Four::from(entries),
-    })
+    let a = fields.take().natural()?;
+    let b = fields.take().natural()?;
+    let entries = Four::from(Two::<Two<E>>::read(fields)?);
+    Ok(Command::Post(Change::Pair { a, b, entries }))
 }
 
 fn read_pin<'a, E: EntryFields>(fields: &mut Cursor<'a>) -> Result<Command<'a, E>, FieldFault>
     ensures { CallReply E.EntryFields.form Pin fields.old.place (fields_left fields.old) result }
 {
-    let variable = fields.take().natural()?;
+    let v = fields.take().natural()?;
     let value = fields.take().natural()?;
-    Ok(Command::Pin { variable, value })
+    Ok(Command::Post(Change::Pin { v, value }))
 }
 
 fn read_free<'a, E: EntryFields>(fields: &mut Cursor<'a>) -> Result<Command<'a, E>, FieldFault>
     ensures { CallReply E.EntryFields.form Free fields.old.place (fields_left fields.old) result }
 {
-    let variable = fields.take().natural()?;
-    Ok(Command::Free { variable })
+    let v = fields.take().natural()?;
+    Ok(Command::Post(Change::Free { v }))
 }
 
 fn read_score<'a, E: EntryFields>(fields: &mut Cursor<'a>) -> Result<Command<'a, E>, FieldFault>

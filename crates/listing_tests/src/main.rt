@@ -3,6 +3,7 @@
 
 #![tactic(auto)]
 
+use calls::changes::Change;
 use fields::parts::{BoardKind, Part};
 use listing::commands::{Command, Opening};
 use listing::entries::EntryFields;
@@ -86,16 +87,23 @@ where
 {
     fn fmt<W: fmt::Write>(&self, f: &mut fmt::Formatter<W>) -> fmt::Result {
         match &self.0 {
-            Command::One { variable, entries } => write!(f, "one,{variable},{}", Shown(*entries)),
-            Command::Pair {
-                first,
-                second,
-                entries,
-            } => write!(f, "pair,{first},{second},{}", Shown(*entries)),
-            Command::Pin { variable, value } => write!(f, "pin,{variable},{value}"),
-            Command::Free { variable } => write!(f, "free,{variable}"),
+            Command::Post(change) => write!(f, "{}", Shown(*change)),
             Command::Back => write!(f, "back"),
             Command::Score { layout } => write!(f, "score,{}", Shown(*layout)),
+        }
+    }
+}
+
+impl<E: Copy> fmt::Display for Shown<Change<E>>
+where
+    Shown<E>: fmt::Display,
+{
+    fn fmt<W: fmt::Write>(&self, f: &mut fmt::Formatter<W>) -> fmt::Result {
+        match self.0 {
+            Change::One { v, entries } => write!(f, "one,{v},{}", Shown(entries)),
+            Change::Pair { a, b, entries } => write!(f, "pair,{a},{b},{}", Shown(entries)),
+            Change::Pin { v, value } => write!(f, "pin,{v},{value}"),
+            Change::Free { v } => write!(f, "free,{v}"),
         }
     }
 }
