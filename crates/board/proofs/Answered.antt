@@ -21,7 +21,8 @@ use Rattle.records.specs.Pairs.{joined_pair}
 use Rattle.records.specs.Variables.{joined_var, with_pin}
 use Rattle.board.specs.Stands.{Stands, Answered, Changed, TakenBack}
 use Rattle.board.specs.Tables.{Held, records_view, used, replace_var, replace_pair, join_one, join_pair, set_pin, take_back, undo_at, Place}
-use Rattle.records.proofs.Lists.{nth_below, nth_take}
+use Rattle.std.proofs.lemmas.Option.{slice_get_within}
+use Rattle.records.proofs.Lists.{nth_take}
 use Rattle.board.proofs.Pairs.{onto_kept, newly_kept, length_take_most}
 use Rattle.board.proofs.Steps.{stands_more, back_stands}
 use Rattle.board.proofs.Vars.{pinned, freed, posted}
@@ -108,7 +109,7 @@ module _ {E S K : Type 0} (M : Model E S) (laws : Laws M) (means : K → S) wher
         → first_no (change_questions M (view_of n cs) (PairPost a b es)) ≡ None → Stands M means n (join_pair J h (key a b) (lower_first a b f) place) (more cs (PairPost a b es))
     pair_stands a b es f (Some i) scored found pass =
         let old = found.1.pair in
-        let inside = nth_below (used h) i old found.1.there in
+        let inside = slice_get_within (used h) i old found.1.there in
         let below : i < h.kept = omega (arith, inside, length_take_most h.kept h.pairs) in
         let there : slice_get h.pairs i ≡ Some old = sym (nth_take h.pairs h.kept i below) ∙ found.1.there in
         let is = sym (ap (λ x. elim x [ None ↦ h | Some r ↦ replace_pair h i r (joined_pair J r (lower_first a b f)) ]) there) in

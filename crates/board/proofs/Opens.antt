@@ -41,7 +41,7 @@ module _ {E S K : Type 0} (M : Model E S) (means : K → S) (n : ℕ) (vars : Li
             pairs = tt;
           };
         });
-        refused = λ f k. let z : ◌≡◌ {A = ℕ} 0 1 = cc in absurd (omega arith);
+        refused = λ f k. absurd cc;
       }
 
   pub opens : (reply : Result (Unit {0}) Refusal) (cleared : List (Var K)) (r : Var K) (h : Held K) → is_err reply ≡ false → refusal_in reply ≡ not_opened n vars pairs history → Fresh M means r
@@ -53,4 +53,4 @@ module _ {E S K : Type 0} (M : Model E S) (means : K → S) (n : ℕ) (vars : Li
   pub refuses : (reply : Result (Unit {0}) Refusal) (h : Held K) → is_err reply ≡ true → refusal_in reply ≡ not_opened n vars pairs history → h ≡ no_changes vars pairs history 0
       → Opened M means n vars pairs history h
   refuses (Ok x) h bad e same = absurd (false≢true bad)
-  refuses (Err f) h bad e same = record { opened = λ k. let z : ◌≡◌ {A = ℕ} 0 1 = cc in absurd (omega arith); refused = λ _ _. same }
+  refuses (Err f) h bad e same = record { opened = λ k. absurd cc; refused = λ _ _. same }

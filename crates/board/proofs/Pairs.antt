@@ -34,7 +34,7 @@ pub length_take_most : {X : Type 0} (m : ℕ) (xs : List X) → length (take m x
 length_take_most m xs = simp length-take (omega arith)
 
 all_getD_nth : {X : Type 0} (P : X → Type 0) (xs : List X) (i : ℕ) (x : X) → slice_get xs i ≡ Some x → AllByRecursion P xs → P x
-all_getD_nth P [] i x there all = let z : ◌≡◌ {A = ℕ} 0 1 = cc in absurd (omega arith)
+all_getD_nth P [] i x there all = absurd cc
 all_getD_nth P (y ∷ ys) zero x there all = let e : y ≡ x = cc in subst P e all.0
 all_getD_nth P (y ∷ ys) (suc i) x there all = all_getD_nth P ys i x there all.1
 
@@ -59,7 +59,7 @@ module _ {K : Type 0} (k : ℕ × ℕ) (P Q : Pair K → Type 0) (others : (p : 
       go false e z rest = (others p e all.0, rest (omega (arith, z)) all.1)
 
   at_least_one : (ps : List (Pair K)) (i : ℕ) (p : Pair K) → slice_get ps i ≡ Some p → same_key k (pair_key p) ≡ true → 1 ≤ how_many (same_key k) (map pair_key ps)
-  at_least_one [] i p there same = let z : ◌≡◌ {A = ℕ} 0 1 = cc in absurd (omega arith)
+  at_least_one [] i p there same = absurd cc
   at_least_one (q ∷ qs) zero p there same =
       let e : same_key k (pair_key q) ≡ true = subst (λ r. same_key k (pair_key r) ≡ true) (is q p there) same in
       let f = one_if (same_key k (pair_key q)) e in

@@ -19,7 +19,8 @@ use Rattle.records.specs.declared.history.Was.TheVariants.{Var as WasVar}
 use Rattle.records.specs.Variables.{joined_var, with_pin}
 use Rattle.board.specs.Stands.{VarShows, PairShows, Stands}
 use Rattle.board.specs.Tables.{Held, used, replace_var, undo_at}
-use Rattle.records.proofs.Lists.{nth_below, nth_set_same, nth_set_other, set_back}
+use Rattle.std.proofs.lemmas.Option.{slice_get_within}
+use Rattle.records.proofs.Lists.{nth_set_same, nth_set_other, set_back}
 use Rattle.board.proofs.Steps.{Written}
 use Rattle.board.proofs.Views.{shows}
 
@@ -52,7 +53,7 @@ module _ {E S K : Type 0} (M : Model E S) (laws : Laws M) (means : K → S) (n :
           → (r : Var K) × (slice_get (set h.vars v new) w ≡ Some r) × VarShows M means n (more cs c) w r
       at w below r (inl e) = (
         new,
-        ap (slice_get (set h.vars v new)) e ∙ nth_set_same h.vars v new (nth_below h.vars v old there),
+        ap (slice_get (set h.vars v new)) e ∙ nth_set_same h.vars v new (slice_get_within h.vars v old there),
         subst (λ u. VarShows M means n (more cs c) u new) (sym e) here,
       )
       at w below r (inr e) = (r.0, nth_set_other h.vars v w new e ∙ r.1, others w e r.0 r.2)

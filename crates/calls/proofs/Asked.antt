@@ -1,5 +1,5 @@
 -- What an accepted change passed. Assumes nothing.
-use Rattle.std.proofs.Common.{◌≡◌, ℕ, ◌<◌, Bool, true, false, cond, ◌||◌, eqb, ltb, List, [], ◌∷◌, Some, None, refl, arith}
+use Rattle.std.proofs.Common.{◌≡◌, ℕ, ◌<◌, Bool, true, false, cond, ◌||◌, eqb, ltb, List, [], ◌∷◌, Some, None, refl}
 use Rattle.std.proofs.lemmas.Bool.{and_parts, ltb-true, eqb-false, not-true}
 use Rattle.score.specs.Model.{Model}
 use Rattle.calls.specs.declared.changes.Change.{Change}
@@ -20,7 +20,7 @@ all_yes (q ∷ qs) h = go q.0 refl h (all_yes qs)
   where
     go : (t : Bool) → q.0 ≡ t → cond t (first_no qs) (Some q.1) ≡ None → (first_no qs ≡ None → AllYes qs) → (q.0 ≡ true) × AllYes qs
     go true e k rest = (e, rest k)
-    go false e k rest = let z : ◌≡◌ {A = ℕ} 0 1 = cc in absurd (omega arith)
+    go false e k rest = absurd cc
 
 module _ {E S : Type 0} (M : Model E S) (w : View) where
   pub record OnePassed (v : ℕ) (es : Two E) : Type 0 where

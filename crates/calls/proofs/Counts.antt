@@ -53,7 +53,7 @@ module _ {E S : Type 0} (M : Model E S) (laws : Laws M) where
     where
       go : (o : Option S) → M.score e ≡ o → is_some o ≡ true → Of M 1 (unwrap_or o M.neutral)
       go (Some s) is t = of_one M laws e s is
-      go None is t = let z : ◌≡◌ {A = ℕ} 0 1 = cc in absurd (omega arith)
+      go None is t = absurd cc
 
   four_of_one : (es : Four E) → takes_four M es ≡ true → (x y : Bool) → Of M 1 (score_of M (at_four es x y))
   four_of_one es h x y = taken_of_one (at_four es x y) (four_taken M es h x y)

@@ -1,7 +1,7 @@
 // Changes to a board, and calls on one.
 use score::values::{Four, Two};
 
-#[derive(Clone, Copy)]
+#[derive(Clone, Copy, Drop)]
 pub enum Change<E> {
     One { v: u32, entries: Two<E> },
     Pair { a: u32, b: u32, entries: Four<E> },

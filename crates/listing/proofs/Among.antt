@@ -1,5 +1,5 @@
 -- An entry that is written into fields is read back from them wherever they stand in a line. Assumes nothing.
-use Rattle.std.proofs.Common.{◌≡◌, ℕ, ◌+◌, Bool, true, false, cond, List, [], ◌∷◌, ◌++◌, length, get_or, drop, Some, None, Option, sym, refl, ap, ◌∙◌, arith}
+use Rattle.std.proofs.Common.{◌≡◌, ℕ, ◌+◌, Bool, true, false, cond, List, [], ◌∷◌, ◌++◌, length, get_or, drop, Some, None, Option, sym, refl, ap, ◌∙◌}
 use Rattle.std.specs.List.{AllByRecursion}
 use Rattle.std.proofs.lemmas.List.{drop-drop}
 use Rattle.std.proofs.Math.Seq.{drop-append_seam}
@@ -14,7 +14,7 @@ use Rattle.listing.specs.Asked.{all_yes, first_after, first_dropped}
 module _ {F : Type 0} where
   yes_first : (t : Bool) (f : F) (o : Option F) → cond t o (Some f) ≡ None → (t ≡ true) × (o ≡ None)
   yes_first true f o e = (refl, e)
-  yes_first false f o e = let z : ◌≡◌ {A = ℕ} 0 1 = cc in absurd (omega arith)
+  yes_first false f o e = absurd cc
 
   yes_all : (qs : List (Question F)) → first_no qs ≡ None → AllByRecursion (λ q. q.0 ≡ true) qs
   yes_all [] e = tt

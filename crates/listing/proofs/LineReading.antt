@@ -28,7 +28,7 @@ first_inside (q ∷ qs) = inside_by q.0 q.1 (first_no (inside qs)) (first_no qs)
 
 short_by : (n : ℕ) (t : Bool) → leb n line_limit ≡ t → (f : LineFault) (o : Option LineFault) → cond t o (Some f) ≡ None → n ≤ line_limit
 short_by n true e f o h = leb-true n line_limit e
-short_by n false e f o h = let z : ◌≡◌ {A = ℕ} 0 1 = cc in absurd (omega arith)
+short_by n false e f o h = absurd cc
 
 -- a line whose word is read is short
 word_short : (number : ℕ) (line : List ℕ) → first_no (word_questions number line) ≡ None → length line ≤ line_limit

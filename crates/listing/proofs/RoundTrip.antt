@@ -65,7 +65,7 @@ word_plain (Call Score) = plain_by comma (spelling (Call Score)) refl
 
 reply_is : {E : Type 0} (M : EntryForm E) (number : ℕ) (line : List ℕ) (c : Said E) → first_no (command_questions M number line) ≡ None → command_of M line ≡ Some c → (r : Result (Command E) LineFault) → CommandReply M number line r → MatchResult r (λ x. says x ≡ c) (λ f. ⊥)
 reply_is M number line c all is (Ok x) h = let k = h.1 in cc
-reply_is M number line c all is (Err f) h = let z : ◌≡◌ {A = ℕ} 0 1 = cc in omega arith
+reply_is M number line c all is (Err f) h = cc
 
 -- a line whose fields are a word and the fields that it asks for
 module _ {E : Type 0} (M : EntryForm E) (number : ℕ) (line : List ℕ) (short : length line ≤ line_limit) (call : CallWord) (ws : List (List ℕ)) (plain : AllByRecursion (Without comma) ws) (is_line : line ≡ parted_by comma (spelling (Call call) ∷ ws)) (count : length ws ≡ length (call_forms M call)) (passes : first_no (questions_from (place_at number 1) (call_forms M call) ws) ≡ None) where

@@ -11,16 +11,16 @@ use Rattle.std.proofs.lemmas.List.{drop-drop, drop_all, get_or-drop}
 module _ {F A : Type 0} where
   pub replied_ok : (o : Option F) (x v : A) → Ok x ≡ replied o v → (o ≡ None) × (x ≡ v)
   replied_ok None x v e = (refl, cc)
-  replied_ok (Some f) x v e = let z : ◌≡◌ {A = ℕ} 0 1 = cc in absurd (omega arith)
+  replied_ok (Some f) x v e = absurd cc
 
   pub replied_err : (o : Option F) (f : F) (v : A) → Err f ≡ replied o v → o ≡ Some f
-  replied_err None f v e = let z : ◌≡◌ {A = ℕ} 0 1 = cc in absurd (omega arith)
+  replied_err None f v e = absurd cc
   replied_err (Some g) f v e = cc
 
 module _ {F : Type 0} where
   yes_by : (t : Bool) (f : F) (o o' p : Option F) → (o ≡ None → o' ≡ p) → cond t o (Some f) ≡ None → cond t o' (Some f) ≡ p
   yes_by true f o o' p h e = h e
-  yes_by false f o o' p h e = let z : ◌≡◌ {A = ℕ} 0 1 = cc in absurd (omega arith)
+  yes_by false f o o' p h e = absurd cc
 
   -- where these are all answered yes, the first no is that of the others
   pub first_after : (qs rs : List (Question F)) → first_no qs ≡ None → first_no (qs ++ rs) ≡ first_no rs
@@ -37,7 +37,7 @@ module _ {F : Type 0} where
 
   -- a no among these comes before the others
   pub first_among : (qs rs : List (Question F)) (f : F) → first_no qs ≡ Some f → first_no (qs ++ rs) ≡ Some f
-  first_among [] rs f e = let z : ◌≡◌ {A = ℕ} 0 1 = cc in absurd (omega arith)
+  first_among [] rs f e = absurd cc
   first_among (q ∷ qs) rs f e = no_by q.0 q.1 f (first_no qs) (first_no (qs ++ rs)) (first_among qs rs f) e
 
 -- a field that is read, and then the others

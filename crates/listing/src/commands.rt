@@ -21,7 +21,7 @@ pub struct Opening {
 }
 
 // A line after the first. A post is a change to a board.
-#[derive(Clone, Copy)]
+#[derive(Clone, Copy, Drop)]
 pub enum Command<'a, E> {
     Post(Change<E>),
     Back,

@@ -9,7 +9,8 @@ use Rattle.notes.specs.declared.splits.TheConstants.{MOST_SPLITS}
 use Rattle.notes.specs.Claims.{Stacks}
 use Rattle.notes.specs.Splits.{Bounded, at_zero, at_one, pushed, top_of, begun, popped}
 use Rattle.notes.specs.Stack.{notes_of}
-use Rattle.records.proofs.Lists.{take_set, nth_take, nth_below, nth_set_same}
+use Rattle.std.proofs.lemmas.Option.{slice_get_within}
+use Rattle.records.proofs.Lists.{take_set, nth_take, nth_set_same}
 
 -- the newest of the first n, marked
 pub begun_at : (xs : List Split) (n k : ℕ) (d : Split) → k + 1 ≡ n → n ≤ length xs → take n (set xs k (at_one (get_or xs k d))) ≡ begun (take n xs)
@@ -33,7 +34,7 @@ split_off s some =
 
 begun_last : (s : List Split) (p : Split) → top_of s ≡ Some p → begun s ≡ popped s ++ at_one p ∷ []
 begun_last s p top =
-    let there : length s - 1 < length s = nth_below s (length s - 1) p top in
+    let there : length s - 1 < length s = slice_get_within s (length s - 1) p top in
     ap (λ o. elim o [ None ↦ s | Some q ↦ set s (length s - 1) (at_one q) ]) top
     ∙ sym (take_all (length s) (set s (length s - 1) (at_one p)) (omega (arith, length-set s (length s - 1) (at_one p))))
     ∙ ap (λ k. take k (set s (length s - 1) (at_one p))) (omega arith)

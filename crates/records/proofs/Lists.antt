@@ -1,14 +1,8 @@
 -- Lists read at an index, written, cut and joined. Assumes nothing.
-use Rattle.std.proofs.Common.{◌≡◌, ℕ, zero, suc, ◌+◌, ◌-◌, ◌<◌, ◌≤◌, min, List, [], ◌∷◌, ◌++◌, length, take, drop, set, replicate, Some, None, sym, refl, ap, ◌∙◌, arith}
+use Rattle.std.proofs.Common.{◌≡◌, ℕ, zero, suc, ◌+◌, ◌-◌, ◌<◌, ◌≤◌, List, [], ◌∷◌, ◌++◌, length, take, set, replicate, Some, None, sym, refl, ap, ◌∙◌, arith}
 use Rattle.std.specs.List.{slice_get}
-use Rattle.std.proofs.lemmas.List.{drop-drop}
 
 module _ {X : Type 0} where
-  pub nth_below : (xs : List X) (i : ℕ) (x : X) → slice_get xs i ≡ Some x → i < length xs
-  nth_below [] i x h = let z : ◌≡◌ {A = ℕ} 0 1 = cc in absurd (omega arith)
-  nth_below (y ∷ ys) zero x h = omega arith
-  nth_below (y ∷ ys) (suc i) x h = omega (arith, nth_below ys i x h)
-
   pub nth_set_same : (xs : List X) (i : ℕ) (x : X) → i < length xs → slice_get (set xs i x) i ≡ Some x
   nth_set_same [] i x h = absurd (omega (arith, h))
   nth_set_same (y ∷ ys) zero x h = refl
@@ -20,27 +14,6 @@ module _ {X : Type 0} where
   nth_set_other (y ∷ ys) zero (suc j) x h = refl
   nth_set_other (y ∷ ys) (suc i) zero x h = refl
   nth_set_other (y ∷ ys) (suc i) (suc j) x h = nth_set_other ys i j x (λ e. h (ap suc e))
-
-  pub take_least : (n : ℕ) (xs : List X) → take (min n (length xs)) xs ≡ take n xs
-  take_least n xs = go n (min n (length xs)) xs refl
-    where
-      go : (n m : ℕ) (xs : List X) → m ≡ min n (length xs) → take m xs ≡ take n xs
-      go n zero [] e = both n
-        where
-          both : (n : ℕ) → ◌≡◌ {A = List X} [] (take n [])
-          both zero = refl
-          both (suc n) = refl
-      go n (suc m) [] e = absurd (omega (arith, e))
-      go zero zero (x ∷ xs) e = refl
-      go (suc n) zero (x ∷ xs) e = absurd (omega (arith, e))
-      go zero (suc m) (x ∷ xs) e = absurd (omega (arith, e))
-      go (suc n) (suc m) (x ∷ xs) e = ap (λ zs. x ∷ zs) (go n m xs (omega (arith, e)))
-
-  -- lists that agree from i on agree from n on
-  pub drop_later : (i n : ℕ) (xs ys : List X) → i ≤ n → drop i xs ≡ drop i ys → drop n xs ≡ drop n ys
-  drop_later i n xs ys h e =
-      let split : n ≡ i + (n - i) = omega arith in
-      ap (λ m. drop m xs) split ∙ sym (drop-drop (n - i) i xs) ∙ ap (drop (n - i)) e ∙ drop-drop (n - i) i ys ∙ ap (λ m. drop m ys) (sym split)
 
   pub take_set : (xs : List X) (n i : ℕ) (x : X) → take n (set xs i x) ≡ set (take n xs) i x
   take_set [] zero i x = refl
@@ -58,7 +31,7 @@ module _ {X : Type 0} where
 
   pub nth_none : (xs : List X) (i : ℕ) → slice_get xs i ≡ None → length xs ≤ i
   nth_none [] i e = omega arith
-  nth_none (x ∷ xs) zero e = let z : ◌≡◌ {A = ℕ} 0 1 = cc in absurd (omega arith)
+  nth_none (x ∷ xs) zero e = absurd cc
   nth_none (x ∷ xs) (suc i) e = omega (arith, nth_none xs i e)
 
   -- an old element put back

@@ -8,7 +8,7 @@ use Rattle.records.specs.declared.pairs.Pair.{Pair}
 use Rattle.records.specs.Pairs.{is_pair, place}
 
 pub some_suc : (o : Option ℕ) (i : ℕ) → option_map suc o ≡ Some i → (k : ℕ) × (i ≡ suc k) × (o ≡ Some k)
-some_suc None i e = let z : ◌≡◌ {A = ℕ} 0 1 = cc in absurd (omega arith)
+some_suc None i e = absurd cc
 some_suc (Some k) i e = let s : suc k ≡ i = cc in (k, sym s, refl)
 
 module _ {K : Type 0} (x z : ℕ) where
@@ -28,7 +28,7 @@ module _ {K : Type 0} (x z : ℕ) where
       ∙ ap (cond (is_pair x z p) (Some 0)) (later 0 ps ∙ ap (option_map suc) (sym (position_from-zero (is_pair x z) ps)))
 
   pub place_below : (ps : List (Pair K)) (i : ℕ) → place x z ps ≡ Some i → i < length ps
-  place_below [] i e = let z : ◌≡◌ {A = ℕ} 0 1 = cc in absurd (omega arith)
+  place_below [] i e = absurd cc
   place_below (p ∷ ps) i e =
       ⊎_elim
       (λ (t : is_pair x z p ≡ true). let s : Some 0 ≡ Some i = sym (place_cons p ps ∙ cond-true (is_pair x z p) (Some 0) (option_map suc (place x z ps)) t) ∙ e in let k : 0 ≡ i = cc in omega arith)

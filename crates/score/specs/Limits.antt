@@ -15,7 +15,7 @@ use Rattle.score.specs.Integers.{adding_exact}
 -- what is taken under a test passed it, and is the score
 taken : {X : Type 0} (t : Bool) (x s : X) → cond t (Some x) None ≡ Some s → (t ≡ true) × (x ≡ s)
 taken true x s h = (refl, cc)
-taken false x s h = let z : ◌≡◌ {A = ℕ} 0 1 = cc in absurd (omega arith)
+taken false x s h = absurd cc
 
 product_size : (h : ℕ) (c : ℤ) (m n : ℕ) → h ≤ m → unsigned_abs c ≤ n → unsigned_abs (pos h *ℤ c) ≤ m * n
 product_size h (pos k) m n p q = mul-le h k m n p q

@@ -1,6 +1,6 @@
 -- A tiered score of m entries is of m entries in each part. Assumes nothing.
 use Rattle.std.specs.Prelude.{◌≡◌, ℕ, List, [], ◌∷◌, map, Some, None, Option, refl}
-use Rattle.std.proofs.Common.{ap, ◌∙◌, arith}
+use Rattle.std.proofs.Common.{ap, ◌∙◌}
 use Rattle.std.proofs.lemmas.List.{length-map}
 use Rattle.std.proofs.ByRecursion.{All-map, All-weaker}
 use Rattle.score.specs.Model.{Model, Entered, Of, Together, joined}
@@ -8,9 +8,9 @@ use Rattle.score.specs.Tiered.{both, tiers}
 
 both_parts : {A B : Type 0} (a : Option A) (b : Option B) (x : A × B) → both a b ≡ Some x → (a ≡ Some x.0) × (b ≡ Some x.1)
 both_parts (Some a) (Some b) x h = let e : (a, b) ≡ x = cc in (ap (λ y. Some y.0) e, ap (λ y. Some y.1) e)
-both_parts (Some a) None x h = let z : ◌≡◌ {A = ℕ} 0 1 = cc in absurd (omega arith)
-both_parts None (Some b) x h = let z : ◌≡◌ {A = ℕ} 0 1 = cc in absurd (omega arith)
-both_parts None None x h = let z : ◌≡◌ {A = ℕ} 0 1 = cc in absurd (omega arith)
+both_parts (Some a) None x h = absurd cc
+both_parts None (Some b) x h = absurd cc
+both_parts None None x h = absurd cc
 
 -- a part of each score, and what the kind of that part makes of them
 part_of : {P E X Y : Type 0} (M : Model P X) (N : Model E Y) (f : X → Y)

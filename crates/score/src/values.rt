@@ -4,14 +4,14 @@ ghost use Rattle.score.specs.Values.{at_two, joined_two, NeutralTwo, at_four, tu
 
 use crate::interface::Kind;
 
-#[derive(Clone, Copy)]
+#[derive(Clone, Copy, Drop)]
 pub struct Two<T> {
     pub zero: T,
     pub one: T,
 }
 
 // At 00, 01, 10 and 11, the first variable's value first.
-#[derive(Clone, Copy)]
+#[derive(Clone, Copy, Drop)]
 pub struct Four<T> {
     pub at00: T,
     pub at01: T,

@@ -12,7 +12,8 @@ use Rattle.sheets.specs.Changed.{kept}
 use Rattle.partners.specs.Links.{front, links}
 use Rattle.records.specs.Pairs.{touches, is_pair}
 use Rattle.worksheet.specs.Records.{found, var_says, pair_scores, contents, Present, Placed, Apart, Arranged}
-use Rattle.records.proofs.Lists.{nth_below, nth_set_same, nth_set_other}
+use Rattle.std.proofs.lemmas.Option.{slice_get_within}
+use Rattle.records.proofs.Lists.{nth_set_same, nth_set_other}
 use Rattle.worksheet.proofs.Partners.{link_cases, found_on_low, found_on_high}
 
 module _ {K : Type 0} (y : ℕ) where
@@ -103,7 +104,7 @@ module _ {K : Type 0} (vs : List (Var K)) (y : ℕ) (r : Two K) (there : slice_g
       ⊎_elim
       (λ (e : v ≡ y).
       ap (λ x. var_says means (slice_get (set vs y None) x)) e
-      ∙ ap (var_says means) (nth_set_same vs y None (nth_below vs y (Some r) there))
+      ∙ ap (var_says means) (nth_set_same vs y None (slice_get_within vs y (Some r) there))
       ∙ sym (cond-true (eqb v y) None (var_says means (slice_get vs v)) (eq-eqb v y e)))
       (λ (e : v ≡ y → ⊥). ap (var_says means) (nth_set_other vs y v None e) ∙ sym (cond-false (eqb v y) None (var_says means (slice_get vs v)) (ne_eqb v y e)))
       (cases_eq v y)

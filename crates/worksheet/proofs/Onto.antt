@@ -15,7 +15,8 @@ use Rattle.records.specs.Pairs.{joined_pair, is_pair}
 use Rattle.sheets.specs.Variables.{Var, joined_var}
 use Rattle.score.specs.Values.{at_two, joined_two, at_four, joined_four}
 use Rattle.worksheet.specs.Records.{found, var_scores, var_says, pair_scores, contents, Present, Placed, Apart}
-use Rattle.records.proofs.Lists.{nth_below, nth_set_same, nth_set_other}
+use Rattle.std.proofs.lemmas.Option.{slice_get_within}
+use Rattle.records.proofs.Lists.{nth_set_same, nth_set_other}
 use Rattle.worksheet.proofs.Partners.{found_here, found_on_low, found_on_high}
 
 joined_two_at : {K : Type 0} (J : K → K → K) (r t : Two K) (u : Bool) → at_two (joined_two J r t) u ≡ J (at_two r u) (at_two t u)
@@ -40,7 +41,7 @@ module _ {K : Type 0} (J : K → K → K) (vs : List (Var K)) (x : ℕ) (t : Two
       go (Some r) = nth_set_other vs x v (joined_var J r t) d
 
   pub join_at_same : (r : Var K) → slice_get vs x ≡ Some r → slice_get (join_at J vs x t) x ≡ Some (joined_var J r t)
-  join_at_same r e = ap (λ ws. slice_get ws x) (join_at_some r e) ∙ nth_set_same vs x (joined_var J r t) (nth_below vs x r e)
+  join_at_same r e = ap (λ ws. slice_get ws x) (join_at_some r e) ∙ nth_set_same vs x (joined_var J r t) (slice_get_within vs x r e)
 
   pub join_at_length : length (join_at J vs x t) ≡ length vs
   join_at_length = go (slice_get vs x)

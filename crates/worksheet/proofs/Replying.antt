@@ -23,7 +23,8 @@ use Rattle.sheets.specs.Variables.{Var, joined_var}
 use Rattle.score.specs.Values.{at_two, at_four}
 use Rattle.records.specs.Pairs.{is_pair}
 use Rattle.worksheet.specs.Records.{var_scores, var_says, pair_scores, found, contents, Present, Placed, Arranged}
-use Rattle.records.proofs.Lists.{nth_none, nth_below}
+use Rattle.std.proofs.lemmas.Option.{slice_get_within}
+use Rattle.records.proofs.Lists.{nth_none}
 use Rattle.worksheet.proofs.Onto.{join_at_same, join_at_other, join_at_length}
 use Rattle.worksheet.proofs.Running.{row, row_joined, row_of_counts, ofs_joined, run, run_append, run_exact, Ofs, ofs_append, within_ofs, of_vars, of_var, vars_joined, vars_of, of_pair, found_keys, all_found, pairs_joined, pairs_of_counts}
 
@@ -307,7 +308,7 @@ module _ {E S K : Type 0} (M : Model E S) (laws : Laws M) (means : K → S) (J :
     -- one variable and its pairs
     module _ (v : ℕ) (r : Two K) (there : slice_get vs v ≡ Some (Some r)) where
       arm_room : arm_count v ≤ exact_entries
-      arm_room = omega (arith, over_one (length vs) v arm_count (nth_below vs v (Some r) there), counts_sum, all_entries M means b vs ps arranged few)
+      arm_room = omega (arith, over_one (length vs) v arm_count (slice_get_within vs v (Some r) there), counts_sum, all_entries M means b vs ps arranged few)
 
       arm_joined : (u : Bool) → means (run J (at_two r u) (row (low_best u) v ps)) ≡ M.join (means (at_two r u)) (joined M (row (entry u) v ps))
       arm_joined u =

@@ -13,7 +13,7 @@ use Rattle.score.specs.declared.values.Two.{Two}
 use Rattle.sheets.specs.Variables.{Var}
 use Rattle.records.specs.Pairs.{is_pair}
 use Rattle.worksheet.specs.Records.{found, Placed, Apart}
-use Rattle.records.proofs.Lists.{nth_below}
+use Rattle.std.proofs.lemmas.Option.{slice_get_within}
 use Rattle.worksheet.proofs.Partners.{found_here}
 
 -- Held scores joined one after the other -----------------------------------------------------------------------------------------------
@@ -140,7 +140,7 @@ module _ {K E S : Type 0} (M : Model E S) (laws : Laws M) (g : Pair K → S) whe
       let only_p : ℕ → ℕ → S = λ x z. cond (eqb x p.low && eqb z p.high) (g p) M.neutral in
       let rest_p : ℕ → ℕ → S = λ x z. of_pair M.neutral g (found x z ps) in
       ap₂ M.join
-      (sym (single n only_p ∙ total_pair laws n p.low p.high (g p) (nth_below vs p.low (Some h.0.low_present.0) h.0.low_present.1) (nth_below vs p.high (Some h.0.high_present.0) h.0.high_present.1)))
+      (sym (single n only_p ∙ total_pair laws n p.low p.high (g p) (slice_get_within vs p.low (Some h.0.low_present.0) h.0.low_present.1) (slice_get_within vs p.high (Some h.0.high_present.0) h.0.high_present.1)))
       (pairs_joined vs ps h.1 a.1)
       ∙ sym (over_join_two laws n only_p rest_p)
       ∙ sym (over_same laws n _ _ (λ x. over_same laws n _ _ (λ z. parts x z)))
@@ -183,7 +183,7 @@ module _ {K E S : Type 0} (M : Model E S) (laws : Laws M) (g : Pair K → S) whe
       go : (t : Bool) → eqb v p.low ≡ t → joined M (row g v ps) ≡ over M (length vs) (λ c. of_pair M.neutral g (found v c ps))
           → joined M (cond t (g p ∷ row g v ps) (row g v ps)) ≡ over M (length vs) (λ c. of_pair M.neutral g (cond (eqb v p.low && eqb c p.high) (Some p) (found v c ps)))
       go true e rest =
-          ap₂ M.join (sym (over_only laws (length vs) p.high (g p) (nth_below vs p.high (Some h.0.high_present.0) h.0.high_present.1))) rest
+          ap₂ M.join (sym (over_only laws (length vs) p.high (g p) (slice_get_within vs p.high (Some h.0.high_present.0) h.0.high_present.1))) rest
           ∙ sym (over_join laws (length vs) (only M p.high (g p)) (λ c. of_pair M.neutral g (found v c ps)))
           ∙ sym (over_same laws (length vs) _ _ (λ c. ap (λ t. of_pair M.neutral g (cond (t && eqb c p.high) (Some p) (found v c ps))) e ∙ part c (eqb c p.high) refl))
         where

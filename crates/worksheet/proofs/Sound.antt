@@ -9,7 +9,7 @@ use Rattle.sheets.specs.Variables.{Var}
 use Rattle.worksheet.specs.Claims.{ContentsSound}
 use Rattle.records.specs.Pairs.{is_pair}
 use Rattle.worksheet.specs.Records.{found, var_says, pair_scores, Present, Placed}
-use Rattle.records.proofs.Lists.{nth_below}
+use Rattle.std.proofs.lemmas.Option.{slice_get_within}
 
 module _ {K S : Type 0} (means : K → S) (b : K) (vs : List (Var K)) where
   -- what is found is in order
@@ -33,7 +33,7 @@ module _ {K S : Type 0} (means : K → S) (b : K) (vs : List (Var K)) where
     where
       go : (o : Option (Var K)) → slice_get vs v ≡ o → is_some (var_says means o) ≡ true → v < length vs
       go None is e = absurd (both_ways false refl e)
-      go (Some r) is e = nth_below vs v r is
+      go (Some r) is e = slice_get_within vs v r is
 
 pub contents_sound : {K S : Type 0} (means : K → S) → ContentsSound means
 contents_sound means b vs ps a = record {

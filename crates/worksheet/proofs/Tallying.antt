@@ -7,13 +7,14 @@ use Rattle.sheets.specs.Variables.{Var}
 use Rattle.partners.specs.Tallied.{one_more, both_more, tallied}
 use Rattle.partners.specs.Links.{front, links}
 use Rattle.worksheet.specs.Records.{contents, Arranged}
-use Rattle.records.proofs.Lists.{nth_below, nth_set_same, nth_set_other}
+use Rattle.std.proofs.lemmas.Option.{slice_get_within}
+use Rattle.records.proofs.Lists.{nth_set_same, nth_set_other}
 use Rattle.worksheet.proofs.Partners.{LowFirst, low_first, link_cases, degree_links}
 
 more_same : (ds : List ℕ) (v d : ℕ) → slice_get ds v ≡ Some d → d + 1 < 2 ^ 64 → slice_get (one_more ds v) v ≡ Some (d + 1)
 more_same ds v d e h =
     ap (λ o. slice_get (elim o [ None ↦ ds | Some d ↦ set ds v ((d + 1) % 2 ^ 64) ]) v) e
-    ∙ nth_set_same ds v ((d + 1) % 2 ^ 64) (nth_below ds v d e)
+    ∙ nth_set_same ds v ((d + 1) % 2 ^ 64) (slice_get_within ds v d e)
     ∙ ap Some (omega arith)
 
 more_other : (ds : List ℕ) (x v : ℕ) → (v ≡ x → ⊥) → slice_get (one_more ds x) v ≡ slice_get ds v
