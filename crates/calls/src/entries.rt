@@ -5,8 +5,6 @@ ghost use Rattle.calls.specs.Entries.{TwoTaken, FourTaken};
 use score::interface::Kind;
 use score::values::{Four, Two};
 
-// Two and four are scored apart: one function for both would name its entries by place and not by values.
-
 // The scores of two entries, or `None` where the kind does not take one of them.
 pub fn score_two<K: Kind>(entries: Two<K::Entry>) -> Option<Two<K>>
     ensures { TwoTaken K.Kind.model K.Kind.means entries result }

@@ -35,6 +35,7 @@ pub enum Refusal {
 }
 
 impl Refusal {
+    // As replies have it.
     pub fn number(self) -> u8
         ensures { result ≡ refusal_number self }
     {

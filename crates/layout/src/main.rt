@@ -73,15 +73,15 @@ where
     let mut vars = vec![in heap; Var::<K>::fresh(); VARIABLES]?;
     let mut pairs = vec![in heap; Pair::<K>::unused(); PAIRS]?;
     let mut history = vec![in heap; Undo::<K>::unused(); CHANGES]?;
+    match Board::check(variables, &vars, &pairs, &history) {
+        Ok(()) => println!(rt; "ok")?,
+        Err(refusal) => return println!(rt; "{refusal}"),
+    }
     let memory = Memory {
         vars: &mut vars,
         pairs: &mut pairs,
         history: &mut history,
     };
-    match Board::check(variables, &memory) {
-        Ok(()) => println!(rt; "ok")?,
-        Err(refusal) => return println!(rt; "{refusal}"),
-    }
     let mut board = Board::open(variables, memory);
     session(rt, &mut board, reader)
 }

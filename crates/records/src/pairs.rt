@@ -6,7 +6,7 @@ ghost use Rattle.records.specs.Pairs.{touches, link_of, joined_pair, UnusedPair,
 use score::interface::Kind;
 use score::values::Four;
 
-// A pair, the lower variable first, and its scores.
+// A pair, the lower variable first, and its scores. No struct for the two: it would be written out wherever a pair is asked for.
 #[derive(Clone, Copy)]
 pub struct Pair<K> {
     pub low: u32,
@@ -66,7 +66,12 @@ impl<K: Kind> Pair<K> {
         Pair {
             low: 0,
             high: 0,
-            scores: Four::neutral(),
+            scores: Four {
+                at00: K::neutral(),
+                at01: K::neutral(),
+                at10: K::neutral(),
+                at11: K::neutral(),
+            },
         }
     }
 

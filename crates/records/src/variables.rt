@@ -26,7 +26,10 @@ impl<K: Kind> Var<K> {
         ensures { Fresh K.Kind.model K.Kind.means result }
     {
         Var {
-            scores: Two::neutral(),
+            scores: Two {
+                zero: K::neutral(),
+                one: K::neutral(),
+            },
             pin: None,
         }
     }

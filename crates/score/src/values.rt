@@ -1,6 +1,6 @@
 // One of something for each value of a variable, and one for each values of two variables.
 ghost use Rattle.std.specs.Prelude.{◌≡◌};
-ghost use Rattle.score.specs.Values.{at_two, joined_two, NeutralTwo, at_four, turned_four, lower_first, joined_four, NeutralFour, four_of};
+ghost use Rattle.score.specs.Values.{at_two, joined_two, at_four, turned_four, lower_first, joined_four, four_of};
 
 use crate::interface::Kind;
 
@@ -10,7 +10,8 @@ pub struct Two<T> {
     pub one: T,
 }
 
-// At 00, 01, 10 and 11, the first variable's value first.
+// At 00, 01, 10 and 11, the first variable's value first. No two of twos: that would be read by place, as `zero.one`, and turned or
+// joined through a trait of its own.
 #[derive(Clone, Copy, Drop)]
 pub struct Four<T> {
     pub at00: T,
@@ -28,15 +29,6 @@ impl<T: Copy> Two<T> {
 }
 
 impl<K: Kind> Two<K> {
-    pub fn neutral() -> Two<K>
-        ensures { NeutralTwo K.Kind.model K.Kind.means result }
-    {
-        Two {
-            zero: K::neutral(),
-            one: K::neutral(),
-        }
-    }
-
     // With two more scores joined on.
     pub fn joined(self, scores: Two<K>) -> Two<K>
         ensures { result ≡ joined_two K.Kind.held self scores }
@@ -82,17 +74,6 @@ impl<T: Copy> Four<T> {
 }
 
 impl<K: Kind> Four<K> {
-    pub fn neutral() -> Four<K>
-        ensures { NeutralFour K.Kind.model K.Kind.means result }
-    {
-        Four {
-            at00: K::neutral(),
-            at01: K::neutral(),
-            at10: K::neutral(),
-            at11: K::neutral(),
-        }
-    }
-
     // With four more scores joined on.
     pub fn joined(self, scores: Four<K>) -> Four<K>
         ensures { result ≡ joined_four K.Kind.held self scores }

@@ -8,10 +8,12 @@ ghost use Rattle.board.specs.Tables.{held};
 use super::{Board, Memory};
 use calls::questions::{Counts, ask_opening};
 use calls::refusals::Refusal;
+use records::history::Undo;
+use records::pairs::Pair;
 use records::variables::Var;
 use score::interface::Kind;
 
-// Writes the same record at each place.
+// Writes the same record at each place. No `fill`: it asks for a `Clone` that cannot fail, and a kind promises none.
 fn clear<K: Copy>(vars: &mut [Var<K>], fresh: Var<K>)
     ensures { (v : ℕ) → v < length vars.old → slice_get vars.new v ≡ Some fresh }
 {
@@ -20,16 +22,29 @@ fn clear<K: Copy>(vars: &mut [Var<K>], fresh: Var<K>)
     }
 }
 
-impl<'a, K: Kind> Board<'a, K> {
-    // Whether a board of n variables can be opened over these records.
-    pub fn check(n: u32, memory: &Memory<'a, K>) -> Result<(), Refusal>
-        ensures { refusal_in result ≡ not_opened n memory.now.vars.now memory.now.pairs.now memory.now.history.now }
+impl<'a, K: Kind> Memory<'a, K> {
+    fn check(&self, n: u32) -> Result<(), Refusal>
+        ensures { refusal_in result ≡ not_opened n self.now.vars.now self.now.pairs.now self.now.history.now }
     {
         let Memory {
             vars,
             pairs,
             history,
-        } = memory;
+        } = self;
+        Board::check(n, vars, pairs, history)
+    }
+}
+
+impl<'a, K: Kind> Board<'a, K> {
+    // Whether a board of n variables can be opened over these records.
+    pub fn check(
+        n: u32,
+        vars: &[Var<K>],
+        pairs: &[Pair<K>],
+        history: &[Undo<K>],
+    ) -> Result<(), Refusal>
+        ensures { refusal_in result ≡ not_opened n vars.now pairs.now history.now }
+    {
         ask_opening(n, vars.len(), pairs.len(), history.len())
     }
 
@@ -37,7 +52,7 @@ impl<'a, K: Kind> Board<'a, K> {
     pub fn open(n: u32, memory: Memory<'a, K>) -> Board<'a, K>
         ensures { Opened K.Kind.model K.Kind.means n memory.entry.vars.now memory.entry.pairs.now memory.entry.history.now (held result) }
     {
-        if Board::check(n, &memory).is_err() {
+        if memory.check(n).is_err() {
             return Board::over(memory, 0);
         }
         clear(memory.vars, Var::fresh());

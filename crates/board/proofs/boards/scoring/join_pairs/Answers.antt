@@ -1,6 +1,4 @@
-use Rattle.std.proofs.Common.{subst}
-use Rattle.board.specs.Scoring.{JoinsOn, pairs_at}
-use Rattle.board.proofs.Joining.{joins_next, pairs_step, pairs_ended}
+use Rattle.board.proofs.Joining.{joins_next, pairs_step}
 use Rattle.board.proofs.boards.scoring.join_pairs.Goals as goal
 
 pub loop-pair-preserved : goal.loop-pair-preserved
@@ -9,10 +7,4 @@ loop-pair-preserved g c =
     _ _ _ _ c.pair_score.result c.loop-pair.sum _
     (pairs_step c.args.layout.now c.args.pairs.now c.loop-pair.pair-index c.pair-item.result c.pair_score.result c.loop-pair-test.true c.pair-item.is c.pair_score.ensures)
     c.join-sum.ensures
-    c.loop-pair.invariant
-
-pub returns : goal.returns
-returns g c =
-    subst (λ ys. JoinsOn g.K.Kind.model g.K.Kind.means (pairs_at c.args.layout.now c.args.pairs.now) c.args.start ys c.loop-pair.sum)
-    (pairs_ended c.args.layout.now c.args.pairs.now c.loop-pair.pair-index c.loop-pair-test.false)
     c.loop-pair.invariant

@@ -1,6 +1,4 @@
-use Rattle.std.proofs.Common.{subst}
-use Rattle.board.specs.Scoring.{JoinsOn, vars_at}
-use Rattle.board.proofs.Joining.{joins_next, vars_step, vars_ended}
+use Rattle.board.proofs.Joining.{joins_next, vars_step}
 use Rattle.board.proofs.boards.scoring.join_vars.Goals as goal
 
 pub loop-v-preserved : goal.loop-v-preserved
@@ -9,10 +7,4 @@ loop-v-preserved g c =
     _ _ _ _ c.var_score.result c.loop-v.sum _
     (vars_step c.args.layout.now c.args.vars.now c.loop-v.v c.index-vars-v.result c.var_score.result c.loop-v-test.true c.index-vars-v.is c.var_score.ensures)
     c.join-sum.ensures
-    c.loop-v.invariant
-
-pub returns : goal.returns
-returns g c =
-    subst (λ ys. JoinsOn g.K.Kind.model g.K.Kind.means (vars_at c.args.layout.now 0 c.args.vars.now) c.args.start ys c.loop-v.sum)
-    (vars_ended c.args.layout.now c.args.vars.now c.loop-v.v c.loop-v-test.false)
     c.loop-v.invariant
