@@ -7,7 +7,6 @@ use Rattle.calls.specs.Questions.{View}
 use Rattle.calls.specs.Standing.{has_key}
 use Rattle.records.specs.Pairs.{joined_pair}
 use Rattle.records.specs.Variables.{joined_var, with_pin}
-use Rattle.board.specs.declared.boards.Board.{Board}
 use Rattle.records.specs.declared.pairs.Pair.{Pair}
 use Rattle.records.specs.declared.history.Undo.{Undo}
 use Rattle.records.specs.declared.variables.Var.{Var}
@@ -22,9 +21,6 @@ pub record Held (K : Type 0) : Type 0 where
   pub n : ℕ
   pub kept : ℕ
   pub standing : ℕ
-
-abbrev pub held : {K : Type 0} → Board K → Held K
-held b = record { vars = b.memory.vars.now; pairs = b.memory.pairs.now; history = b.memory.history.now; n = b.counts.variables; kept = b.counts.pairs; standing = b.counts.changes }
 
 abbrev pub pair_key : {K : Type 0} → Pair K → ℕ × ℕ
 pair_key p = (p.low, p.high)

@@ -4,7 +4,6 @@
 
 ghost use Rattle.std.specs.Prelude.{◌≡◌, map, IfOk, OnErr};
 ghost use Rattle.board.specs.Sending.{Replied};
-ghost use Rattle.board.specs.Tables.{held};
 ghost use Rattle.listing.specs.Calls.{call_of};
 ghost use Rattle.console.specs.Spelled.{layout_of, digit_value};
 
@@ -34,8 +33,8 @@ pub fn answer<'a, K: Kind>(
     board: &mut Board<'a, K>,
     command: &Command<'_, K::Entry>,
 ) -> Result<Result<Answer<K>, Refusal>, AllocError>
-    ensures told { IfOk result (λ t. Replied K.Kind.model K.Kind.means (held board.old) (held board.new) (call_of command.now) (layout_of command.now) t) }
-    ensures refused { OnErr result (held board.new ≡ held board.old) }
+    ensures told { IfOk result (λ t. Replied K.Kind.model K.Kind.means board.old board.new (call_of command.now) (layout_of command.now) t) }
+    ensures refused { OnErr result (board.new ≡ board.old) }
 {
     let call = Call::from(command);
     if let Command::Score { layout } = command {

@@ -3,7 +3,6 @@ ghost use Rattle.std.specs.Prelude.{◌≡◌, ℕ, ◌<◌, length, Some};
 ghost use Rattle.std.specs.List.{slice_get};
 ghost use Rattle.calls.specs.Questions.{refusal_in};
 ghost use Rattle.board.specs.Opening.{not_opened, no_changes, Opened};
-ghost use Rattle.board.specs.Tables.{held};
 
 use super::{Board, Memory};
 use calls::questions::{Counts, ask_opening};
@@ -50,7 +49,7 @@ impl<'a, K: Kind> Board<'a, K> {
 
     // A fresh board where the check says yes; otherwise one without variables.
     pub fn open(n: u32, memory: Memory<'a, K>) -> Board<'a, K>
-        ensures { Opened K.Kind.model K.Kind.means n memory.entry.vars.now memory.entry.pairs.now memory.entry.history.now (held result) }
+        ensures { Opened K.Kind.model K.Kind.means n memory.entry.vars.now memory.entry.pairs.now memory.entry.history.now result }
     {
         if memory.check(n).is_err() {
             return Board::over(memory, 0);
@@ -60,7 +59,7 @@ impl<'a, K: Kind> Board<'a, K> {
     }
 
     fn over(memory: Memory<'a, K>, variables: usize) -> Board<'a, K>
-        ensures { held result ≡ no_changes memory.entry.vars.now memory.entry.pairs.now memory.entry.history.now variables }
+        ensures { result ≡ no_changes memory.entry.vars.now memory.entry.pairs.now memory.entry.history.now variables }
     {
         Board {
             memory,

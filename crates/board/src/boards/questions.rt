@@ -4,7 +4,7 @@ ghost use Rattle.calls.specs.Entries.{TwoScored, FourScored};
 ghost use Rattle.calls.specs.Questions.{first_no, refusal_in, change_questions, back_questions};
 ghost use Rattle.calls.specs.Standing.{key};
 ghost use Rattle.calls.specs.declared.changes.Change.TheVariants.{One, Pair, Pin, Free};
-ghost use Rattle.board.specs.Tables.{held, records_view, used, Place};
+ghost use Rattle.board.specs.Tables.{records_view, used, Place};
 
 use super::Board;
 use super::reading::find;
@@ -22,7 +22,7 @@ pub(super) struct PairPost<K> {
 
 impl<'a, K: Kind> Board<'a, K> {
     pub(super) fn check_one(&self, v: u32, entries: Two<K::Entry>) -> Result<Two<K>, Refusal>
-        ensures reply { refusal_in result ≡ first_no (change_questions K.Kind.model (records_view (held self.now)) (One v entries)) }
+        ensures reply { refusal_in result ≡ first_no (change_questions K.Kind.model (records_view self.now) (One v entries)) }
         ensures scores { IfOk result (λ s. TwoScored K.Kind.model K.Kind.means entries s) }
     {
         self.counts.ask_one(v, score_two::<K>(entries))
@@ -34,9 +34,9 @@ impl<'a, K: Kind> Board<'a, K> {
         b: u32,
         entries: Four<K::Entry>,
     ) -> Result<PairPost<K>, Refusal>
-        ensures reply { refusal_in result ≡ first_no (change_questions K.Kind.model (records_view (held self.now)) (Pair a b entries)) }
+        ensures reply { refusal_in result ≡ first_no (change_questions K.Kind.model (records_view self.now) (Pair a b entries)) }
         ensures scores { IfOk result (λ p. FourScored K.Kind.model K.Kind.means entries p.scores) }
-        ensures place { IfOk result (λ p. Place (key a b) (used (held self.now)) p.place) }
+        ensures place { IfOk result (λ p. Place (key a b) (used self.now) p.place) }
     {
         let place = find(self.memory.pairs, self.counts.pairs, a.min(b), a.max(b));
         let scores = score_four::<K>(entries);
@@ -45,19 +45,19 @@ impl<'a, K: Kind> Board<'a, K> {
     }
 
     pub(super) fn check_pin(&self, v: u32, value: u32) -> Result<(), Refusal>
-        ensures { refusal_in result ≡ first_no (change_questions K.Kind.model (records_view (held self.now)) (Pin v value)) }
+        ensures { refusal_in result ≡ first_no (change_questions K.Kind.model (records_view self.now) (Pin v value)) }
     {
         self.counts.ask_pin(v, value, self.pin_of(v as usize))
     }
 
     pub(super) fn check_free(&self, v: u32) -> Result<(), Refusal>
-        ensures { refusal_in result ≡ first_no (change_questions K.Kind.model (records_view (held self.now)) (Free v)) }
+        ensures { refusal_in result ≡ first_no (change_questions K.Kind.model (records_view self.now) (Free v)) }
     {
         self.counts.ask_free(v, self.pin_of(v as usize))
     }
 
     pub(super) fn check_back(&self) -> Result<(), Refusal>
-        ensures { refusal_in result ≡ first_no (back_questions (records_view (held self.now))) }
+        ensures { refusal_in result ≡ first_no (back_questions (records_view self.now)) }
     {
         self.counts.ask_back()
     }

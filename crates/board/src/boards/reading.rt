@@ -1,7 +1,7 @@
 // Reading a board's records, at any index.
 ghost use Rattle.std.specs.Prelude.{◌≡◌, take};
 ghost use Rattle.std.specs.List.{slice_get};
-ghost use Rattle.board.specs.Tables.{held, records_view, Place};
+ghost use Rattle.board.specs.Tables.{records_view, Place};
 
 use super::Board;
 use records::access::{first, read};
@@ -12,25 +12,25 @@ use records::variables::Var;
 // One function for each table: the check covers no slice that is lent from a `&mut` receiver for reading.
 impl<'a, K: Copy> Board<'a, K> {
     pub(super) fn var_at(&self, v: usize) -> Option<Var<K>>
-        ensures { result ≡ slice_get (held self.now).vars v }
+        ensures { result ≡ slice_get self.now.vars v }
     {
         read(self.memory.vars, v)
     }
 
     pub(super) fn pair_at(&self, at: usize) -> Option<Pair<K>>
-        ensures { result ≡ slice_get (held self.now).pairs at }
+        ensures { result ≡ slice_get self.now.pairs at }
     {
         read(self.memory.pairs, at)
     }
 
     pub(super) fn undo_at(&self, at: usize) -> Option<Undo<K>>
-        ensures { result ≡ slice_get (held self.now).history at }
+        ensures { result ≡ slice_get self.now.history at }
     {
         read(self.memory.history, at)
     }
 
     pub(super) fn pin_of(&self, v: usize) -> Option<bool>
-        ensures { result ≡ (records_view (held self.now)).pin v }
+        ensures { result ≡ (records_view self.now).pin v }
     {
         self.var_at(v)?.pin
     }

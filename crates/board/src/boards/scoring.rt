@@ -6,7 +6,7 @@ ghost use Rattle.score.specs.Values.{at_two};
 ghost use Rattle.board.specs.Scoring.{pair_at, vars_at, pairs_at, JoinsOn};
 ghost use Rattle.board.specs.ScoringBoard.{LayoutJoined};
 ghost use Rattle.board.specs.Stands.{Scored};
-ghost use Rattle.board.specs.Tables.{held, records_view};
+ghost use Rattle.board.specs.Tables.{records_view};
 
 use super::Board;
 use calls::refusals::Refusal;
@@ -60,7 +60,7 @@ fn join_pairs<K: Kind>(start: K, pairs: &[Pair<K>], layout: &[u8]) -> K
 
 impl<'a, K: Kind> Board<'a, K> {
     fn keeps_pins(&self, layout: &[u8]) -> bool
-        ensures { result ≡ keeps_pins (records_view (held self.now)).pin 0 layout.now }
+        ensures { result ≡ keeps_pins (records_view self.now).pin 0 layout.now }
     {
         for (v, value) in layout.iter().enumerate() {
             if !keeps_pin(self.pin_of(v), *value) {
@@ -71,13 +71,13 @@ impl<'a, K: Kind> Board<'a, K> {
     }
 
     fn check_score(&self, layout: &[u8]) -> Result<(), Refusal>
-        ensures { refusal_in result ≡ first_no (score_questions (records_view (held self.now)) layout.now) }
+        ensures { refusal_in result ≡ first_no (score_questions (records_view self.now) layout.now) }
     {
         self.counts.ask_score(layout, self.keeps_pins(layout))
     }
 
     fn layout_score(&self, layout: &[u8]) -> K
-        ensures { LayoutJoined K.Kind.model K.Kind.means (held self.now) layout.now result }
+        ensures { LayoutJoined K.Kind.model K.Kind.means self.now layout.now result }
     {
         let ones = join_vars(
             K::neutral(),
@@ -89,7 +89,7 @@ impl<'a, K: Kind> Board<'a, K> {
 
     // The score of a layout: a byte, 0 or 1, for each variable.
     pub fn score(&self, layout: &[u8]) -> Result<K, Refusal>
-        ensures { Scored K.Kind.model K.Kind.means (held self.now) layout.now result }
+        ensures { Scored K.Kind.model K.Kind.means self.now layout.now result }
     {
         self.check_score(layout)?;
         Ok(self.layout_score(layout))

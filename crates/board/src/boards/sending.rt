@@ -1,7 +1,6 @@
 // Every call goes through here.
 ghost use Rattle.board.specs.Sending.{Replied};
 ghost use Rattle.board.specs.Stands.{Changed};
-ghost use Rattle.board.specs.Tables.{held};
 
 use super::Board;
 use calls::answers::Answer;
@@ -12,7 +11,7 @@ use score::interface::Kind;
 impl<'a, K: Kind> Board<'a, K> {
     // A change, whichever it is.
     fn post(&mut self, change: Change<K::Entry>) -> Result<(), Refusal>
-        ensures { Changed K.Kind.model K.Kind.means (held self.old) (held self.new) change result }
+        ensures { Changed K.Kind.model K.Kind.means self.old self.new change result }
     {
         match change {
             Change::One { v, entries } => self.one(v, entries),
@@ -24,7 +23,7 @@ impl<'a, K: Kind> Board<'a, K> {
 
     // A call, with the layout that `Score` asks about.
     pub fn send(&mut self, call: Call<K::Entry>, layout: &[u8]) -> Result<Answer<K>, Refusal>
-        ensures { Replied K.Kind.model K.Kind.means (held self.old) (held self.new) call layout.now result }
+        ensures { Replied K.Kind.model K.Kind.means self.old self.new call layout.now result }
     {
         match call {
             Call::Post(change) => self.post(change).map(|()| Answer::Done),

@@ -1,7 +1,7 @@
 // How a change is written: the old contents into the history first, then the table, then the counts.
 ghost use Rattle.std.specs.Prelude.{◌≡◌, ◌<◌, false, is_some};
 ghost use Rattle.calls.specs.Questions.{most_changes, most_pairs};
-ghost use Rattle.board.specs.Tables.{held, noted, replace_var, replace_pair, keep_pair, put_back, take_back, join_one, join_pair, set_pin};
+ghost use Rattle.board.specs.Tables.{noted, replace_var, replace_pair, keep_pair, put_back, take_back, join_one, join_pair, set_pin};
 
 use super::Board;
 use records::access::write;
@@ -14,8 +14,8 @@ use score::values::{Four, Two};
 impl<'a, K: Copy> Board<'a, K> {
     // Keeps in the history what a change replaces.
     fn note(&mut self, at: usize, was: Was<K>)
-        requires { self.old.counts.changes < most_changes }
-        ensures { held self.new ≡ noted (held self.old) at was }
+        requires { self.old.standing < most_changes }
+        ensures { self.new ≡ noted self.old at was }
     {
         let newest = self.counts.changes;
         write(self.memory.history, newest, Undo { at, was });
@@ -24,24 +24,24 @@ impl<'a, K: Copy> Board<'a, K> {
 
     // The tables differ, and what their writes share is `note`.
     pub(super) fn replace_var(&mut self, v: usize, old: Var<K>, new: Var<K>)
-        requires { self.old.counts.changes < most_changes }
-        ensures { held self.new ≡ replace_var (held self.old) v old new }
+        requires { self.old.standing < most_changes }
+        ensures { self.new ≡ replace_var self.old v old new }
     {
         self.note(v, Was::Var(old));
         write(self.memory.vars, v, new);
     }
 
     pub(super) fn replace_pair(&mut self, at: usize, old: Pair<K>, new: Pair<K>)
-        requires { self.old.counts.changes < most_changes }
-        ensures { held self.new ≡ replace_pair (held self.old) at old new }
+        requires { self.old.standing < most_changes }
+        ensures { self.new ≡ replace_pair self.old at old new }
     {
         self.note(at, Was::Pair(old));
         write(self.memory.pairs, at, new);
     }
 
     pub(super) fn keep_pair(&mut self, new: Pair<K>)
-        requires { (self.old.counts.changes < most_changes) × (self.old.counts.pairs < most_pairs) }
-        ensures { held self.new ≡ keep_pair (held self.old) new }
+        requires { (self.old.standing < most_changes) × (self.old.kept < most_pairs) }
+        ensures { self.new ≡ keep_pair self.old new }
     {
         let at = self.counts.pairs;
         self.note(at, Was::Unkept);
@@ -51,7 +51,7 @@ impl<'a, K: Copy> Board<'a, K> {
 
     // Puts back what the history record kept.
     pub(super) fn restore(&mut self, newest: Undo<K>)
-        ensures { held self.new ≡ put_back (held self.old) newest }
+        ensures { self.new ≡ put_back self.old newest }
     {
         self.counts.changes = self.counts.changes.saturating_sub(1);
         let Undo { at, was } = newest;
@@ -63,7 +63,7 @@ impl<'a, K: Copy> Board<'a, K> {
     }
 
     pub(super) fn take_back(&mut self)
-        ensures { held self.new ≡ take_back (held self.old) }
+        ensures { self.new ≡ take_back self.old }
     {
         let newest = self.counts.changes.saturating_sub(1);
         if let Some(undo) = self.undo_at(newest) {
@@ -74,8 +74,8 @@ impl<'a, K: Copy> Board<'a, K> {
 
 impl<'a, K: Kind> Board<'a, K> {
     pub(super) fn join_one(&mut self, v: usize, scores: Two<K>)
-        requires { self.old.counts.changes < most_changes }
-        ensures { held self.new ≡ join_one K.Kind.held (held self.old) v scores }
+        requires { self.old.standing < most_changes }
+        ensures { self.new ≡ join_one K.Kind.held self.old v scores }
     {
         if let Some(old) = self.var_at(v) {
             self.replace_var(v, old, old.joined(scores));
@@ -83,8 +83,8 @@ impl<'a, K: Kind> Board<'a, K> {
     }
 
     pub(super) fn set_pin(&mut self, v: usize, pin: Option<bool>)
-        requires { self.old.counts.changes < most_changes }
-        ensures { held self.new ≡ set_pin (held self.old) v pin }
+        requires { self.old.standing < most_changes }
+        ensures { self.new ≡ set_pin self.old v pin }
     {
         if let Some(old) = self.var_at(v) {
             self.replace_var(v, old, old.with_pin(pin));
@@ -92,8 +92,8 @@ impl<'a, K: Kind> Board<'a, K> {
     }
 
     pub(super) fn join_pair(&mut self, low: u32, high: u32, scores: Four<K>, place: Option<usize>)
-        requires { (self.old.counts.changes < most_changes) × (is_some place ≡ false → self.old.counts.pairs < most_pairs) }
-        ensures { held self.new ≡ join_pair K.Kind.held (held self.old) (low, high) scores place }
+        requires { (self.old.standing < most_changes) × (is_some place ≡ false → self.old.kept < most_pairs) }
+        ensures { self.new ≡ join_pair K.Kind.held self.old (low, high) scores place }
     {
         match place {
             Some(at) => {

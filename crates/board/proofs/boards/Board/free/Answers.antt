@@ -1,5 +1,4 @@
 use Rattle.calls.specs.declared.changes.Change.TheVariants.{Free}
-use Rattle.board.specs.Tables.{held}
 use Rattle.board.proofs.Answered.{changed_when, free_stands}
 use Rattle.board.proofs.boards.Board.free.Goals as goal
 
@@ -7,5 +6,5 @@ pub returns : goal.returns
 returns g c =
     let M = g.K.Kind.model in
     let means = g.K.Kind.means in
-    changed_when M means (held c.args.self.now) _ _ (Free c.args.v) _ c.end_pin.ensures.reply c.end_pin.ensures.after
+    changed_when M means c.args.self.now _ _ (Free c.args.v) _ c.end_pin.ensures.reply c.end_pin.ensures.after
     (λ n cs st pass. free_stands M g.met.K.Kind.lawful means n _ cs st c.args.v pass)
