@@ -1,6 +1,7 @@
 -- What the calls that change a board promise. Assumes nothing.
-use Rattle.std.proofs.Common.{◌≡◌, ℕ, ◌<◌, Bool, true, false, cond, ◌||◌, eqb, ltb, List, [], ◌∷◌, length, is_ok, Some, None, Ok, Err, Option, Result, sym, refl, ap, ◌∙◌, subst, arith}
+use Rattle.std.proofs.Common.{◌≡◌, ℕ, ◌<◌, Bool, true, false, cond, ◌||◌, eqb, ltb, List, [], ◌∷◌, length, is_ok, IsErrAnd, Some, None, Ok, Err, Option, Result, sym, refl, ap, ◌∙◌, subst, arith}
 use Rattle.std.specs.List.{slice_get}
+use Rattle.std.proofs.lemmas.Result.{err_from_is_err_and}
 use Rattle.std.proofs.lemmas.Bool.{ltb-true, true≢false, false≢true}
 use Rattle.score.specs.Model.{Model, Laws, Together}
 use Rattle.calls.specs.declared.changes.Change.{Change}
@@ -27,6 +28,10 @@ use Rattle.board.proofs.Pairs.{onto_kept, newly_kept, length_take_most}
 use Rattle.board.proofs.Steps.{stands_more, back_stands}
 use Rattle.board.proofs.Vars.{pinned, freed, posted}
 use Rattle.board.proofs.Views.{shows, asks_same}
+
+-- what is passed on by `?`, the refusal unchanged
+pub passed_on : {T : Type 0} (P : Result T Refusal → Type 0) (r : Result T Refusal) (f : Refusal) → IsErrAnd r (λ g. g ≡ f) → P (Err f) → P r
+passed_on P r f h p = let e = err_from_is_err_and r h in subst P (sym (e.1 ∙ ap Err e.2)) p
 
 -- asks: the questions; same: they have one answer on the records and on the list
 module _ {E S K : Type 0} (M : Model E S) (means : K → S) (asks : View → List Question) (next : Standing E → Standing E) (h : Held K)
@@ -67,9 +72,6 @@ module _ {E S K : Type 0} (M : Model E S) (means : K → S) (h : Held K) where
 
   back_same : (n : ℕ) (cs : Standing E) → Stands M means n h cs → first_no (back_questions (records_view h)) ≡ first_no (back_questions (view_of n cs))
   back_same n cs st = ap (λ m. first_no ((ltb 0 m, NoChange) ∷ [])) st.standing_is
-
-  pub back_turned_down : (f : Refusal) → Some f ≡ first_no (back_questions (records_view h)) → TakenBack M means h h (Err f)
-  back_turned_down = refused_so M means back_questions without_last h back_same
 
   pub back_accepted : (h' : Held K) → None ≡ first_no (back_questions (records_view h)) → h' ≡ take_back h → TakenBack M means h h' (Ok tt)
   back_accepted h' e is = accepted_so M means back_questions without_last h back_same h' (take_back h) e is (λ n cs st pass. back_stands M means n h cs st (ltb-true 0 (count cs) (all_yes (back_questions (view_of n cs)) pass).0))

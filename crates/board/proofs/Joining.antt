@@ -1,9 +1,9 @@
 -- A running join of held scores, and the scores that a layout selects. Assumes nothing.
-use Rattle.std.proofs.Common.{◌≡◌, ℕ, ◌+◌, ◌<◌, ◌≤◌, List, [], ◌∷◌, ◌++◌, map, length, get_or, drop, sym, ap, ◌∙◌, subst, add-one}
+use Rattle.std.proofs.Common.{◌≡◌, ℕ, ◌+◌, ◌<◌, List, ◌∷◌, ◌++◌, map, length, get_or, drop, sym, ap, ◌∙◌, subst, add-one}
 use Rattle.score.specs.Joins.{Joining}
 use Rattle.score.specs.Model.{Model, Laws, Together}
 use Rattle.score.proofs.Joins.{joining_together, joining_next}
-use Rattle.std.proofs.lemmas.List.{drop_more, drop_all}
+use Rattle.std.proofs.lemmas.List.{drop_more}
 use Rattle.calls.specs.Runs.{values}
 use Rattle.records.specs.declared.pairs.Pair.{Pair}
 use Rattle.records.specs.declared.variables.Var.{Var}
@@ -27,13 +27,7 @@ module _ {K : Type 0} (layout : List ℕ) where
       ap (vars_at layout i) (drop_more rs i r below ∙ ap (λ q. q ∷ drop (i + 1) rs) (sym is))
       ∙ (λ j. sym at j ∷ vars_at layout (sym (add-one i) j) (drop (i + 1) rs))
 
-  pub vars_ended : (rs : List (Var K)) (i : ℕ) → length rs ≤ i → vars_at layout i (drop i rs) ≡ []
-  vars_ended rs i past = ap (vars_at layout i) (drop_all i rs past)
-
   pub pairs_step : (ps : List (Pair K)) (i : ℕ) (p : Pair K) (x : K) → i < length ps → p ≡ get_or ps i p → x ≡ pair_at layout p
       → pairs_at layout (drop i ps) ≡ x ∷ pairs_at layout (drop (i + 1) ps)
   pairs_step ps i p x below is at =
       ap (pairs_at layout) (drop_more ps i p below ∙ ap (λ q. q ∷ drop (i + 1) ps) (sym is)) ∙ ap (λ y. y ∷ pairs_at layout (drop (i + 1) ps)) (sym at)
-
-  pub pairs_ended : (ps : List (Pair K)) (i : ℕ) → length ps ≤ i → pairs_at layout (drop i ps) ≡ []
-  pairs_ended ps i past = ap (pairs_at layout) (drop_all i ps past)

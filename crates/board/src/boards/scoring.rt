@@ -59,6 +59,7 @@ fn join_pairs<K: Kind>(start: K, pairs: &[Pair<K>], layout: &[u8]) -> K
 }
 
 impl<'a, K: Kind> Board<'a, K> {
+    // A loop with its index, which says the variable: no word of the library has it.
     fn keeps_pins(&self, layout: &[u8]) -> bool
         ensures { result ≡ keeps_pins (records_view self.now).pin 0 layout.now }
     {

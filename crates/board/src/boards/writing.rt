@@ -11,6 +11,7 @@ use records::variables::Var;
 use score::interface::Kind;
 use score::values::{Four, Two};
 
+// Each write requires the room that its check has shown: a token handed from the check to the write would say no more.
 impl<'a, K: Copy> Board<'a, K> {
     // Keeps in the history what a change replaces.
     fn note(&mut self, at: usize, was: Was<K>)
@@ -73,6 +74,7 @@ impl<'a, K: Copy> Board<'a, K> {
 }
 
 impl<'a, K: Kind> Board<'a, K> {
+    // `join_one` and `set_pin` stay two: what they share is `replace_var`, and the rest is what each of them is for.
     pub(super) fn join_one(&mut self, v: usize, scores: Two<K>)
         requires { self.old.standing < most_changes }
         ensures { self.new ≡ join_one K.Kind.held self.old v scores }

@@ -1,19 +1,16 @@
-use Rattle.std.proofs.Common.{Err, sym, ap, ◌∙◌, subst}
-use Rattle.std.proofs.lemmas.Result.{err_from_is_err_and}
+use Rattle.std.proofs.Common.{◌∙◌}
 use Rattle.calls.specs.declared.changes.Change.TheVariants.{Pair}
 use Rattle.board.specs.Stands.{Changed}
 use Rattle.board.specs.Tables.{join_pair}
-use Rattle.board.proofs.Answered.{turned_down, accepted, pair_stands}
+use Rattle.board.proofs.Answered.{passed_on, turned_down, accepted, pair_stands}
 use Rattle.board.proofs.boards.Board.pair.Goals as goal
 
 pub returns-in_err-post : goal.returns-in_err-post
 returns-in_err-post g c =
     let M = g.K.Kind.model in
     let means = g.K.Kind.means in
-    let h = c.args.self.now in
     let change = Pair c.args.a c.args.b c.args.entries in
-    let p = err_from_is_err_and c.from_residual.result c.from_residual.ensures.1 in
-    subst (Changed M means h h change) (sym (p.1 ∙ ap Err p.2)) (turned_down M means h change _ c.in_err-post.ensures.reply)
+    passed_on (Changed M means c.args.self.now c.args.self.now change) _ _ c.from_residual.ensures.1 (turned_down M means c.args.self.now change _ c.in_err-post.ensures.reply)
 
 pub returns : goal.returns
 returns g c =

@@ -1,17 +1,14 @@
-use Rattle.std.proofs.Common.{Err, sym, ap, ◌∙◌, subst}
-use Rattle.std.proofs.lemmas.Result.{err_from_is_err_and}
 use Rattle.calls.specs.declared.changes.Change.TheVariants.{Pin}
 use Rattle.board.specs.Stands.{Changed}
-use Rattle.board.proofs.Answered.{turned_down, accepted, pin_stands}
+use Rattle.board.proofs.Answered.{passed_on, turned_down, accepted, pin_stands}
 use Rattle.board.proofs.boards.Board.pin.Goals as goal
 
 pub returns-in_err-check_pin : goal.returns-in_err-check_pin
 returns-in_err-check_pin g c =
     let M = g.K.Kind.model in
     let means = g.K.Kind.means in
-    let h = c.args.self.now in
-    let p = err_from_is_err_and c.from_residual.result c.from_residual.ensures.1 in
-    subst (Changed M means h h (Pin c.args.v c.args.value)) (sym (p.1 ∙ ap Err p.2)) (turned_down M means h (Pin c.args.v c.args.value) _ c.in_err-check_pin.ensures)
+    let change = Pin c.args.v c.args.value in
+    passed_on (Changed M means c.args.self.now c.args.self.now change) _ _ c.from_residual.ensures.1 (turned_down M means c.args.self.now change _ c.in_err-check_pin.ensures)
 
 pub returns : goal.returns
 returns g c =
