@@ -1,4 +1,5 @@
 pub mod Among
+pub mod ByIndex
 pub mod EntryReading
 pub mod LineReading
 pub mod ListingReading

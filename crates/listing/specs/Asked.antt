@@ -51,7 +51,7 @@ module _ (form : Form) (p : Place) (forms : List Form) (fs : List (List ℕ)) wh
 pub first_dropped : (i : ℕ) (fs : List (List ℕ)) → get_or (drop i fs) 0 [] ≡ get_or fs i []
 first_dropped i fs = get_or-drop i fs 0 [] ∙ ap (λ k. get_or fs k []) (let z : i + 0 ≡ i = omega arith in z)
 
-++-right_assoc : {A : Type 0} (xs ys zs : List A) → (xs ++ ys) ++ zs ≡ xs ++ (ys ++ zs)
+pub ++-right_assoc : {A : Type 0} (xs ys zs : List A) → (xs ++ ys) ++ zs ≡ xs ++ (ys ++ zs)
 ++-right_assoc [] ys zs = refl
 ++-right_assoc (x ∷ xs) ys zs = ap (λ l. x ∷ l) (++-right_assoc xs ys zs)
 
@@ -67,11 +67,12 @@ questions_append p (x ∷ xs) ys fs =
     dropped xs (f ∷ fs) = refl
 
 -- the same questions at the places of a line's fields, where these fit their numbers
-pub from_index : (line i : ℕ) (forms : List Form) (fs : List (List ℕ)) → i + 1 + length forms < 2 ^ 64 → questions_from (place_at line i) forms (drop i fs) ≡ field_questions line i forms fs
+pub from_index : (line i : ℕ) (forms : List Form) (fs : List (List ℕ)) → i + length forms < 2 ^ 64 → questions_from (place_at line i) forms (drop i fs) ≡ field_questions line i forms fs
 from_index line i [] fs h = refl
-from_index line i (form ∷ forms) fs h =
+from_index line i (form ∷ []) fs h = ap (λ w. asked form (place_at line i) w ++ []) (first_dropped i fs)
+from_index line i (form ∷ other ∷ forms) fs h =
     let next : next_place (place_at line i) ≡ place_at line (i + 1) = ap (λ n. record { line = line; field = n }) (omega arith) in
-    ap (λ w. asked form (place_at line i) w ++ questions_from (next_place (place_at line i)) forms (drop 1 (drop i fs))) (first_dropped i fs)
-    ∙ ap (λ p. asked form (place_at line i) (get_or fs i []) ++ questions_from p forms (drop 1 (drop i fs))) next
-    ∙ ap (λ l. asked form (place_at line i) (get_or fs i []) ++ questions_from (place_at line (i + 1)) forms l) (drop-drop 1 i fs)
-    ∙ ap (λ l. asked form (place_at line i) (get_or fs i []) ++ l) (from_index line (i + 1) forms fs (omega arith))
+    ap (λ w. asked form (place_at line i) w ++ questions_from (next_place (place_at line i)) (other ∷ forms) (drop 1 (drop i fs))) (first_dropped i fs)
+    ∙ ap (λ p. asked form (place_at line i) (get_or fs i []) ++ questions_from p (other ∷ forms) (drop 1 (drop i fs))) next
+    ∙ ap (λ l. asked form (place_at line i) (get_or fs i []) ++ questions_from (place_at line (i + 1)) (other ∷ forms) l) (drop-drop 1 i fs)
+    ∙ ap (λ l. asked form (place_at line i) (get_or fs i []) ++ l) (from_index line (i + 1) (other ∷ forms) fs (omega arith))
