@@ -83,5 +83,5 @@ questions_reached line i [] fs h = refl
 questions_reached line i (form ∷ forms) fs h = ap (λ p. questions_from p (form ∷ forms) (drop i fs)) (place_reached line i (omega arith)) ∙ from_index line i (form ∷ forms) fs h
 
 -- the reply to an entry whose first field has this index
-pub reply_reached : {E : Type 0} (M : EntryForm E) (line index : ℕ) (fs : List (List ℕ)) → index + length M.forms < 2 ^ 64 → entry_reply M (place_after index (place_at line 0)) (drop index fs) ≡ answered (field_questions line index M.forms fs) (M.spelled (drop index fs))
+pub reply_reached : {E : Type 0} (M : EntryForm E) (line index : ℕ) (fs : List (List ℕ)) → index + length M.forms < 2 ^ 64 → entry_reply M (record { place = place_after index (place_at line 0); left = drop index fs }) ≡ answered (field_questions line index M.forms fs) (M.spelled (drop index fs))
 reply_reached M line index fs h = ap (λ qs. replied (first_no qs) (M.spelled (drop index fs))) (questions_reached line index M.forms fs h)

@@ -11,8 +11,7 @@ use Rattle.fields.specs.Forms.{Form}
 use Rattle.std.proofs.lemmas.List.Splits.{length-slice_split}
 use Rattle.std.proofs.lemmas.List.Sums.{count_by-le-length}
 use Rattle.listing.specs.Text.{comma, fields}
-use Rattle.listing.specs.declared.lines.Cursor.{Cursor}
-use Rattle.listing.specs.Lines.{place_at, field_questions, questions_from, fields_left}
+use Rattle.listing.specs.Lines.{place_at, field_questions, questions_from, Unread}
 use Rattle.listing.specs.Entries.{EntryForm}
 use Rattle.listing.specs.Commands.{said, call_forms}
 use Rattle.listing.specs.Reading.{line_limit, word_at, word_questions, inside, line_questions, opens, opening_forms, opening_questions, word_forms, command_questions, said_by, command_of}
@@ -74,8 +73,8 @@ module _ (number : ℕ) (line : List ℕ) (h : first_no (word_questions number l
   wrong_count t g = let few = few_fields number line h in false-eqb _ _ t (omega arith)
 
 -- the questions to the fields after the word, as a cursor there has them
-pub from_word : (c : Cursor) (number : ℕ) (line : List ℕ) (forms : List Form) → fields_left c ≡ drop 1 (fields line) → c.place ≡ place_at number 1 → first_no (questions_from (place_at number 1) forms (drop 1 (fields line))) ≡ first_no (questions_from c.place forms (fields_left c))
-from_word c number line forms l p = ap (λ fs. first_no (questions_from (place_at number 1) forms fs)) (sym l) ∙ ap (λ q. first_no (questions_from q forms (fields_left c))) (sym p)
+pub from_word : (c : Unread) (number : ℕ) (line : List ℕ) (forms : List Form) → c.left ≡ drop 1 (fields line) → c.place ≡ place_at number 1 → first_no (questions_from (place_at number 1) forms (drop 1 (fields line))) ≡ first_no (questions_from c.place forms c.left)
+from_word c number line forms l p = ap (λ fs. first_no (questions_from (place_at number 1) forms fs)) (sym l) ∙ ap (λ q. first_no (questions_from q forms c.left)) (sym p)
 
 -- what is shown where nothing may be there
 pub shown_or : (r : Option (Bor (List ℕ))) (d : Bor (List ℕ)) → (unwrap_or r d).now ≡ unwrap_or (option_map (λ x. x.now) r) d.now

@@ -1,6 +1,5 @@
 -- The commands that lines spell. Assumes nothing.
 use Rattle.std.specs.Prelude.{◌≡◌, ℕ, List, [], ◌∷◌, drop, Some, None, Result, MatchResult, slice_index_or}
-use Rattle.fields.specs.declared.faults.Place.{Place}
 use Rattle.fields.specs.declared.faults.FieldFault.{FieldFault}
 use Rattle.fields.specs.declared.words.Call.{Call as CallWord}
 use Rattle.fields.specs.declared.words.Call.TheVariants.{One, Pair, Pin, Free, Back, Score}
@@ -12,7 +11,7 @@ use Rattle.calls.specs.declared.changes.Change.TheVariants as changes
 use Rattle.listing.specs.declared.commands.Command.TheVariants as commands
 use Rattle.score.specs.declared.values.Two.{Two}
 use Rattle.score.specs.declared.values.Four.{Four}
-use Rattle.listing.specs.Lines.{questions_from}
+use Rattle.listing.specs.Lines.{questions_from, Unread}
 use Rattle.listing.specs.Entries.{EntryForm, by_value_form}
 
 -- a command, with its layout as a list of bytes
@@ -56,9 +55,9 @@ module _ {E : Type 0} (M : EntryForm E) where
   said Back fs = back
   said Score fs = score (slice_index_or fs 0 [])
 
-  -- the reply to the fields after the word, of which the first has this place: the first no, or the command that they spell
-  abbrev pub CallReply : CallWord → Place → List (List ℕ) → Result (Command E) FieldFault → Type 0
-  CallReply call p fs r =
+  -- the reply to the fields after the word: the first no, or the command that they spell
+  abbrev pub CallReply : CallWord → Unread → Result (Command E) FieldFault → Type 0
+  CallReply call u r =
       MatchResult r
-      (λ c. (first_no (questions_from p (call_forms call) fs) ≡ None) × (says c ≡ said call fs))
-      (λ f. first_no (questions_from p (call_forms call) fs) ≡ Some f)
+      (λ c. (first_no (questions_from u.place (call_forms call) u.left) ≡ None) × (says c ≡ said call u.left))
+      (λ f. first_no (questions_from u.place (call_forms call) u.left) ≡ Some f)

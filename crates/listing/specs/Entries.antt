@@ -4,13 +4,12 @@ use Rattle.std.specs.Fmt.{signed_decimal}
 use Rattle.score.specs.declared.margins.Slack.{Slack}
 use Rattle.score.specs.declared.tiers.Weighted.{Weighted}
 use Rattle.score.specs.declared.totals.Access.{Access}
-use Rattle.fields.specs.declared.faults.Place.{Place}
 use Rattle.fields.specs.declared.faults.FieldFault.{FieldFault}
 use Rattle.fields.specs.Questions.{answered}
 use Rattle.fields.specs.Values.{value, signed_value, natural_range, integer_range}
 use Rattle.fields.specs.Forms.{Form, natural, integer}
 use Rattle.score.specs.declared.values.Two.{Two}
-use Rattle.listing.specs.Lines.{questions_from}
+use Rattle.listing.specs.Lines.{questions_from, Unread}
 
 pub record EntryForm (E : Type 0) : Type 0 where
   -- what the fields of an entry hold, from the left
@@ -22,9 +21,9 @@ pub record EntryForm (E : Type 0) : Type 0 where
   -- each number is in its field's range
   pub fits : E → Bool
 
--- the reply to an entry whose first field has this place
-abbrev pub entry_reply : {E : Type 0} → EntryForm E → Place → List (List ℕ) → Result E FieldFault
-entry_reply M p fs = answered (questions_from p M.forms fs) (M.spelled fs)
+-- the reply to an entry in the next fields
+abbrev pub entry_reply : {E : Type 0} → EntryForm E → Unread → Result E FieldFault
+entry_reply M c = answered (questions_from c.place M.forms c.left) (M.spelled c.left)
 
 -- hits, and then cycles
 abbrev pub access_form : EntryForm Access

@@ -8,7 +8,6 @@ use Rattle.fields.specs.declared.parts.Part.{Part}
 use Rattle.fields.specs.Questions.{Question}
 use Rattle.fields.specs.Forms.{Form, asked, bytes_of}
 use Rattle.listing.specs.declared.lines.Line.{Line}
-use Rattle.listing.specs.declared.lines.Cursor.{Cursor}
 use Rattle.listing.specs.Text.{fields}
 
 abbrev pub text_of : Line → List ℕ
@@ -37,21 +36,26 @@ abbrev pub questions_from : Place → List Form → List (List ℕ) → List (Qu
 questions_from p [] fs = []
 questions_from p (form ∷ forms) fs = asked form p (slice_index_or fs 0 []) ++ questions_from (next_place p) forms (drop 1 fs)
 
--- the fields that a cursor has yet to hand out
-abbrev pub fields_left : Cursor → List (List ℕ)
-fields_left c = unwrap_or (option_map (λ t. fields t.now) c.rest) []
+-- the fields that a cursor has yet to hand out, and the place of the first
+pub record Unread : Type 0 where
+  pub place : Place
+  pub left : List (List ℕ)
+
+-- the fields of a text; none where there is no text
+abbrev pub fields_in : Option (Bor (List ℕ)) → List (List ℕ)
+fields_in r = unwrap_or (option_map (λ t. fields t.now) r) []
 
 -- the cursor has passed so many fields
-pub record Passed (n : ℕ) (c c' : Cursor) : Type 0 where
-  pub left_is : fields_left c' ≡ drop n (fields_left c)
+pub record Passed (n : ℕ) (c c' : Unread) : Type 0 where
+  pub left_is : c'.left ≡ drop n c.left
   pub place_is : c'.place ≡ place_after n c.place
 
 -- it hands out the next field, empty where there is none
-pub record Took (c : Cursor) (part : Part) (c' : Cursor) : Type 0 where
-  pub bytes_are : bytes_of part ≡ slice_index_or (fields_left c) 0 []
+pub record Took (c : Unread) (part : Part) (c' : Unread) : Type 0 where
+  pub bytes_are : bytes_of part ≡ slice_index_or c.left 0 []
   pub place_is : part.place ≡ c.place
   pub passed : Passed 1 c c'
 
 -- the first field of a text, and the text of the others
 abbrev pub FirstField : List ℕ → Bor (List ℕ) × Option (Bor (List ℕ)) → Type 0
-FirstField text r = fields text ≡ r.0.now ∷ unwrap_or (option_map (λ t. fields t.now) r.1) []
+FirstField text r = fields text ≡ r.0.now ∷ fields_in r.1

@@ -1,7 +1,6 @@
 // Commands to a board, as lines spell them.
 ghost use Rattle.std.specs.Prelude.{◌≡◌, ◌-◌, ◌^◌, min, length};
 ghost use Rattle.fields.specs.declared.words.Call.TheVariants.{One, Pair, Pin, Free, Score};
-ghost use Rattle.listing.specs.Lines.{fields_left};
 ghost use Rattle.listing.specs.Calls.{call_of};
 ghost use Rattle.listing.specs.Commands.{call_forms, CallReply};
 
@@ -57,7 +56,7 @@ pub(crate) fn field_count<E: EntryFields>(call: Call) -> usize
 }
 
 fn read_one<'a, E: EntryFields>(fields: &mut Cursor<'a>) -> Result<Command<'a, E>, FieldFault>
-    ensures { CallReply E.EntryFields.form One fields.old.place (fields_left fields.old) result }
+    ensures { CallReply E.EntryFields.form One fields.old result }
 {
     let v = fields.take().natural()?;
     let entries = Two::read(fields)?;
@@ -65,7 +64,7 @@ fn read_one<'a, E: EntryFields>(fields: &mut Cursor<'a>) -> Result<Command<'a, E
 }
 
 fn read_pair<'a, E: EntryFields>(fields: &mut Cursor<'a>) -> Result<Command<'a, E>, FieldFault>
-    ensures { CallReply E.EntryFields.form Pair fields.old.place (fields_left fields.old) result }
+    ensures { CallReply E.EntryFields.form Pair fields.old result }
 {
     let a = fields.take().natural()?;
     let b = fields.take().natural()?;
@@ -74,7 +73,7 @@ fn read_pair<'a, E: EntryFields>(fields: &mut Cursor<'a>) -> Result<Command<'a, 
 }
 
 fn read_pin<'a, E: EntryFields>(fields: &mut Cursor<'a>) -> Result<Command<'a, E>, FieldFault>
-    ensures { CallReply E.EntryFields.form Pin fields.old.place (fields_left fields.old) result }
+    ensures { CallReply E.EntryFields.form Pin fields.old result }
 {
     let v = fields.take().natural()?;
     let value = fields.take().natural()?;
@@ -82,14 +81,14 @@ fn read_pin<'a, E: EntryFields>(fields: &mut Cursor<'a>) -> Result<Command<'a, E
 }
 
 fn read_free<'a, E: EntryFields>(fields: &mut Cursor<'a>) -> Result<Command<'a, E>, FieldFault>
-    ensures { CallReply E.EntryFields.form Free fields.old.place (fields_left fields.old) result }
+    ensures { CallReply E.EntryFields.form Free fields.old result }
 {
     let v = fields.take().natural()?;
     Ok(Command::Post(Change::Free { v }))
 }
 
 fn read_score<'a, E: EntryFields>(fields: &mut Cursor<'a>) -> Result<Command<'a, E>, FieldFault>
-    ensures { CallReply E.EntryFields.form Score fields.old.place (fields_left fields.old) result }
+    ensures { CallReply E.EntryFields.form Score fields.old result }
 {
     let layout = fields.take().layout()?;
     Ok(Command::Score { layout })
@@ -100,7 +99,7 @@ pub(crate) fn read_call<'a, E: EntryFields>(
     fields: &mut Cursor<'a>,
     call: Call,
 ) -> Result<Command<'a, E>, FieldFault>
-    ensures { CallReply E.EntryFields.form call fields.old.place (fields_left fields.old) result }
+    ensures { CallReply E.EntryFields.form call fields.old result }
 {
     match call {
         Call::One => read_one(fields),

@@ -1,6 +1,6 @@
 // The fields that an entry fills, one for each of its numbers.
 ghost use Rattle.std.specs.Prelude.{◌≡◌, ◌-◌, ◌^◌, min, length, OnOk};
-ghost use Rattle.listing.specs.Lines.{fields_left, Passed};
+ghost use Rattle.listing.specs.Lines.{Passed};
 ghost use Rattle.listing.specs.Entries.{EntryForm, entry_reply, access_form, slack_form, weighted_form, by_value_form};
 ghost use Rattle.listing.specs.Written.{ReadsBack};
 ghost use Rattle.listing.specs.EntryWriting.{access_back, slack_back, weighted_back, by_value_back};
@@ -22,7 +22,7 @@ pub trait EntryFields: Copy {
 
     // The entry that the next fields spell.
     fn read(fields: &mut Cursor<'_>) -> Result<Self, FieldFault>
-        ensures reply { result ≡ entry_reply form fields.old.place (fields_left fields.old) }
+        ensures reply { result ≡ entry_reply form fields.old }
         ensures passed { OnOk result (Passed (length form.forms) fields.old fields.new) };
 
     // an entry that is written into fields is read back from them

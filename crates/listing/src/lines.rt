@@ -2,11 +2,12 @@
 ghost use Rattle.std.specs.Prelude.{◌≡◌, ◌+◌, ◌^◌, ◌<◌, [], drop, slice_index_or};
 ghost use Rattle.fields.specs.Forms.{bytes_of};
 ghost use Rattle.listing.specs.Text.{fields, TextLaws};
-ghost use Rattle.listing.specs.Lines.{text_of, place_at, fields_left, Took, FirstField};
+ghost use Rattle.listing.specs.Lines.{text_of, place_at, Unread, fields_in, Took, FirstField};
 
 use fields::cutting::{head, tail};
 use fields::faults::Place;
 use fields::parts::Part;
+use std::marker::Model;
 
 pub(crate) const COMMA: u8 = b',';
 
@@ -22,6 +23,13 @@ pub struct Line<'a> {
 pub struct Cursor<'a> {
     rest: Option<&'a [u8]>,
     place: Place,
+}
+
+// Clauses see the fields themselves, and the place of the first.
+impl<'a> Model for Cursor<'a> {
+    ghost Value = { Unread };
+
+    ghost view = { λ c. record { place = c.place; left = fields_in c.rest } };
 }
 
 impl<'a> Line<'a> {
@@ -42,7 +50,7 @@ impl<'a> Line<'a> {
 
     // All fields, one after another.
     pub fn fields(self) -> Cursor<'a>
-        ensures left { fields_left result ≡ fields (text_of self.entry) }
+        ensures left { result.left ≡ fields (text_of self.entry) }
         ensures place { result.place ≡ place_at self.entry.number 0 }
     {
         Cursor {
@@ -56,7 +64,7 @@ impl<'a> Line<'a> {
 
     // The fields after the word.
     pub(crate) fn after_word(self) -> Cursor<'a>
-        ensures left { fields_left result ≡ drop 1 (fields (text_of self.entry)) }
+        ensures left { result.left ≡ drop 1 (fields (text_of self.entry)) }
         ensures place { result.place ≡ place_at self.entry.number 1 }
     {
         let mut cursor = self.fields();
