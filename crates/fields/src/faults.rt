@@ -58,7 +58,8 @@ impl From<LineFault> for ListingFault {
     }
 }
 
-// The reply to a fault: the numbers of its line and its field, 0 where no single one is meant, and the number of the question that said no. It is what a program prints.
+// The reply to a fault, as a program prints it: the numbers of its line and its field, 0 where no single one is meant, and the
+// number of the question that said no.
 #[derive(Clone, Copy)]
 pub struct Bad {
     pub line: usize,

@@ -1,10 +1,10 @@
 // A field of a line, and what it can hold: a number, a layout or a letter.
-ghost use Rattle.std.specs.Prelude.{◌≡◌, ◌-◌, ◌^◌, ◌<◌, min, length, MatchResult, Some};
+ghost use Rattle.std.specs.Prelude.{◌≡◌, ◌-◌, ◌^◌, ◌<◌, min, [], ◌∷◌, length, MatchResult, Some};
 ghost use Rattle.std.specs.Str.{all_ascii_digits};
-ghost use Rattle.fields.specs.declared.faults.FieldFault.TheVariants.{Empty};
+ghost use Rattle.fields.specs.declared.faults.FieldFault.TheVariants.{Empty, NotDigits, OutOfRange};
 ghost use Rattle.fields.specs.Values.{unsigned, value, signed_value};
 ghost use Rattle.fields.specs.Questions.{answered};
-ghost use Rattle.fields.specs.Forms.{asked, natural, integer, layout, kind, bytes_of, named_kind, letter};
+ghost use Rattle.fields.specs.Forms.{asked, natural, integer, layout, kind, bytes_of, named_kind, letter, short};
 
 use crate::faults::{FieldFault, Place};
 use std::fmt;
@@ -50,7 +50,8 @@ fn all_digits(bytes: &[u8]) -> bool
     bytes.iter().all(|b| b.is_ascii_digit())
 }
 
-// The number that the digits write, or the greatest of 64 bits where it is greater.
+// The number that the digits write, or the greatest of 64 bits where it is greater. Read by hand: std's `parse` takes a text and
+// a plus, and does not tell a byte that is no digit from a number out of range.
 fn value_of(digits: &[u8]) -> u64
     ensures { result ≡ min (value digits.now) (2 ^ 64 - 1) }
 {
@@ -78,19 +79,27 @@ impl<'a> Part<'a> {
         Ok(rest)
     }
 
-    // A number from 0 to 4,294,967,295. Unlike `integer`, which is no twin, it takes no minus.
-    pub fn natural(self) -> Result<u32, FieldFault>
-        ensures { result ≡ answered (asked natural self.entry.place (bytes_of self.entry)) (value (bytes_of self.entry)) }
+    // What the field's digits write, if they are digits and the field has no more bytes than a number.
+    fn size(self, digits: &[u8]) -> Result<u64, FieldFault>
+        ensures { result ≡ answered ((all_ascii_digits digits.now, NotDigits self.entry.place) ∷ (short (bytes_of self.entry), OutOfRange self.entry.place) ∷ []) (min (value digits.now) (2 ^ 64 - 1)) }
     {
-        let _digits = self.unsigned()?;
-        // no minus is allowed
-        if !all_digits(self.bytes) {
+        if !all_digits(digits) {
             return Err(FieldFault::NotDigits(self.place));
         }
         if self.bytes.len() > NUMBER_BYTES {
             return Err(FieldFault::OutOfRange(self.place));
         }
-        u32::try_from(value_of(self.bytes)).map_err(|_| FieldFault::OutOfRange(self.place))
+        Ok(value_of(digits))
+    }
+
+    // A number from 0 to 4,294,967,295. Unlike `integer`, it takes no minus.
+    pub fn natural(self) -> Result<u32, FieldFault>
+        ensures { result ≡ answered (asked natural self.entry.place (bytes_of self.entry)) (value (bytes_of self.entry)) }
+    {
+        let _digits = self.unsigned()?;
+        // no minus is allowed
+        let size = self.size(self.bytes)?;
+        u32::try_from(size).map_err(|_| FieldFault::OutOfRange(self.place))
     }
 
     // A number from -2,147,483,648 to 2,147,483,647.
@@ -98,13 +107,7 @@ impl<'a> Part<'a> {
         ensures { result ≡ answered (asked integer self.entry.place (bytes_of self.entry)) (signed_value (bytes_of self.entry)) }
     {
         let digits = self.unsigned()?;
-        if !all_digits(digits) {
-            return Err(FieldFault::NotDigits(self.place));
-        }
-        if self.bytes.len() > NUMBER_BYTES {
-            return Err(FieldFault::OutOfRange(self.place));
-        }
-        let size = i128::from(value_of(digits));
+        let size = i128::from(self.size(digits)?);
         let number = if digits.len() < self.bytes.len() {
             -size
         } else {
