@@ -1,12 +1,18 @@
 -- The note of a removal means its choices. Assumes nothing.
-use Rattle.std.proofs.Common.{◌≡◌, ℕ, Bool, true, false, cond, ap}
+use Rattle.std.proofs.Common.{◌≡◌, ℕ, Bool, true, false, cond, refl, ap}
 use mathlib.Core.Path.{fun_ext}
+use mir.Val.{bool_byte}
 use Rattle.score.specs.declared.choice.Choice.{Choice}
 use Rattle.steps.specs.Steps.{noted, alone, by_one, by_two, set_to}
 use Rattle.score.specs.declared.values.Four.{Four}
 use Rattle.notes.specs.Removals.{bank, bank_number, note_of}
 use Rattle.notes.proofs.Reading.{bank_back}
 use Rattle.worksheet.specs.Noting.{alone_note, one_note, two_note, set_note}
+
+-- a value is noted as its byte
+pub byte_is : (b : Bool) → bool_byte b ≡ bank_number b
+byte_is true = refl
+byte_is false = refl
 
 picked : (u a b : Bool) → bank (cond u (bank_number a) (bank_number b)) ≡ cond u a b
 picked true a b = bank_back a

@@ -29,7 +29,7 @@ use Rattle.notes.specs.Removals.{note_of}
 use Rattle.worksheet.specs.Noting.{alone_note, one_note, two_note, set_note}
 use Rattle.score.specs.Values.{at_two, at_four}
 use Rattle.worksheet.specs.Records.{link_scores, pair_scores, var_says, found, contents, Arranged}
-use Rattle.worksheet.proofs.Asked.{present_is, absent_is, alone_asked, alone_unasked, one_asked, one_unasked, two_asked, two_unasked}
+use Rattle.worksheet.proofs.Asked.{present_is, alone_asked, alone_unasked, one_asked, one_unasked, two_asked, two_unasked}
 use Rattle.worksheet.proofs.Handing.{hand_all, handed_links, hand_all_length, hand_all_placed, hand_all_other, hand_says}
 use Rattle.worksheet.proofs.Leaving.{found_kept, kept_all, kept_fewer, gone_says, leaving, leaving_arranged, gone_present}
 use Rattle.records.proofs.Lists.{nth_set_other}
@@ -264,9 +264,6 @@ module _ {E S K : Type 0} (M : Model E S) (laws : Laws M) (means : K → S) (J :
       through : (f : (Bool → S) → (Bool → S)) (t : Bool) (o : Option (Bool → S)) → option_map f (cond t None o) ≡ cond t None (option_map f o)
       through f true o = refl
       through f false o = refl
-
-  pub set_refused : (b b' : K) (vs vs' : List (Var K)) (ps ps' : List (Pair K)) (y : ℕ) (c : Bool) → present_at vs y ≡ None → SetLeft M means b b' vs vs' ps ps' y c None
-  set_refused b b' vs vs' ps ps' y c at arranged = absent_is means vs y at
 
   -- By two ---------------------------------------------------------------------------------------------------------------------------
 

@@ -17,7 +17,7 @@ pub trait Bound<K: Kind> {
     ghost rule: { Sheet Bool K.Score → Option K.Score };
 
     // The reply about the variables and the pairs in use. `work` is working memory and may end as it likes; where it is shorter
-    // than `vars`, nothing is said.
+    // than `vars`, nothing is said. Base, records and working memory are lent apart, a rule of the project.
     fn ask(base: K, vars: &[Var<K>], pairs: &[Pair<K>], work: &mut [Var<K>]) -> Option<K>
         ensures reply { Replies K.Kind.model K.Kind.means rule base vars.now pairs.now work.old result }
         ensures short { length work.old < length vars.now → result ≡ None };

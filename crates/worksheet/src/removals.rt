@@ -1,9 +1,8 @@
 // The removals of a variable from a worksheet: alone, by one partner, by two partners, and set.
 //
 // A call for a variable that does not remain, or has not so many partners, leaves all as found and returns `None`.
-// The memory is the caller's, so the pairs are lent with the count of those in use beside them.
+// `pairs` and `used` are no struct: the tables and counts of several worksheets are lent apart, a rule of the project.
 ghost use Rattle.std.specs.Prelude.{◌≡◌, length, take, drop};
-ghost use Rattle.notes.specs.Removals.{bank_number};
 ghost use Rattle.worksheet.specs.Does.{AloneDoes, OneDoes, TwoDoes, SetDoes};
 ghost use Rattle.worksheet.specs.Left.{AloneLeft, OneLeft, TwoLeft, SetLeft, WhereNone};
 
@@ -18,13 +17,6 @@ use sheets::changing::{
     scores_of,
 };
 use sheets::variables::Var;
-
-// A value, 0 or 1, as it is noted.
-fn bank_number(value: bool) -> u8
-    ensures { result ≡ bank_number value }
-{
-    u8::from(value)
-}
 
 // A variable without partners takes its better value, and that score is joined to the base.
 pub fn remove_alone<K: Kind>(
@@ -44,13 +36,14 @@ pub fn remove_alone<K: Kind>(
     Some(Removal {
         variable: y,
         way: Way::Alone {
-            value: bank_number(best.second),
+            value: u8::from(best.second),
         },
     })
 }
 
 // A variable with one partner leaves: each score of the partner is joined with the better, over the variable's values, of its
 // score joined with the pair's.
+#[tactic(auto, using(crate::proofs::Noted::byte_is))]
 pub fn remove_by_one<K: Kind>(
     vars: &mut [Var<K>],
     pairs: &mut [Pair<K>],
@@ -77,8 +70,8 @@ pub fn remove_by_one<K: Kind>(
         variable: y,
         way: Way::ByOne {
             partner: link.partner,
-            at0: bank_number(at0.second),
-            at1: bank_number(at1.second),
+            at0: u8::from(at0.second),
+            at1: u8::from(at1.second),
         },
     })
 }
@@ -107,10 +100,10 @@ pub fn remove_by_two<K: Kind>(
         way: Way::ByTwo {
             low: low.partner,
             high: high.partner,
-            at00: bank_number(best.at00.second),
-            at01: bank_number(best.at01.second),
-            at10: bank_number(best.at10.second),
-            at11: bank_number(best.at11.second),
+            at00: u8::from(best.at00.second),
+            at01: u8::from(best.at01.second),
+            at10: u8::from(best.at10.second),
+            at11: u8::from(best.at11.second),
         },
     })
 }
@@ -138,7 +131,7 @@ pub fn set_variable<K: Kind>(
     Some(Removal {
         variable: y,
         way: Way::Set {
-            value: bank_number(value),
+            value: u8::from(value),
         },
     })
 }

@@ -2,6 +2,7 @@ use Rattle.std.proofs.Common.{sym, ap, ◌∙◌}
 use Rattle.notes.specs.declared.removal.Way.TheVariants.{Alone}
 use Rattle.notes.specs.Removals.{removal}
 use Rattle.worksheet.specs.Noting.{alone_note}
+use Rattle.worksheet.proofs.Noted.{byte_is}
 use Rattle.worksheet.proofs.Removed.{alone_done, alone_refused}
 use Rattle.worksheet.proofs.removals.remove_alone.Goals as goal
 
@@ -16,4 +17,4 @@ returns-clause-left g c =
     c.args.base.now _ c.args.vars.now _ c.args.pairs.now c.args.y c.in_ok-var.var _ (sym c.in_ok-var.ensures)
     (c.join.ensures ∙ ap (λ b. g.K.Kind.held c.args.base.now b.score) c.better-best.ensures)
     c.leave.ensures
-    (ap (λ v. removal c.args.y (Alone v)) c.bank_number.ensures ∙ ap (alone_note c.args.y) c.better-best.ensures)
+    (ap (λ v. removal c.args.y (Alone v)) (c.from.ensures ∙ byte_is _) ∙ ap (alone_note c.args.y) c.better-best.ensures)

@@ -3,6 +3,7 @@ use Rattle.notes.specs.declared.removal.Way.TheVariants.{ByOne}
 use Rattle.notes.specs.Removals.{removal}
 use Rattle.partners.specs.Links.{one_at}
 use Rattle.sheets.specs.Changed.{join_at}
+use Rattle.worksheet.proofs.Noted.{byte_is}
 use Rattle.worksheet.proofs.Removed.{one_done, one_refused}
 use Rattle.worksheet.proofs.removals.remove_by_one.Goals as goal
 
@@ -24,4 +25,4 @@ returns-clause-left g c =
     c.best_with_one-at0.ensures c.best_with_one-at1.ensures
     (c.join_at.ensures ∙ ap (λ vs. join_at J vs x (record { zero = c.best_with_one-at0.result.score; one = c.best_with_one-at1.result.score })) c.leave.ensures)
     c.drop_pairs.ensures.kept
-    (ap₂ (λ v w. removal y (ByOne x v w)) c.bank_number.ensures c.bank_number-2.ensures)
+    (ap₂ (λ v w. removal y (ByOne x v w)) (c.from.ensures ∙ byte_is _) (c.from-2.ensures ∙ byte_is _))

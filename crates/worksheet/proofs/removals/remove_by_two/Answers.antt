@@ -5,6 +5,7 @@ use Rattle.notes.specs.declared.removal.Way.TheVariants.{ByTwo}
 use Rattle.notes.specs.Removals.{bank_number, removal}
 use Rattle.worksheet.specs.Noting.{two_note}
 use Rattle.worksheet.proofs.Posting.{post_in_use, post_in_rest, post_used_within}
+use Rattle.worksheet.proofs.Noted.{byte_is}
 use Rattle.worksheet.proofs.Removed.{two_done, two_refused, two_room}
 use Rattle.worksheet.proofs.removals.remove_by_two.Goals as goal
 
@@ -36,8 +37,8 @@ returns g c =
     let pairs_are = ap₂ take c.post_pair.ensures.used c.post_pair.ensures.table
     ∙ post_in_use J x z c.scores_of.result c.drop_pairs-rest.new.pairs c.drop_pairs-rest.result room.0
     ∙ ap (post J x z c.scores_of.result) c.drop_pairs-rest.ensures.kept in
-    let note_is = ap₂ (λ v w. removal y (ByTwo x z v w c.bank_number-3.result c.bank_number-4.result)) c.bank_number.ensures c.bank_number-2.ensures
-    ∙ ap₂ (λ v w. removal y (ByTwo x z (bank_number c.best_with_two-best.result.at00.second) (bank_number c.best_with_two-best.result.at01.second) v w)) c.bank_number-3.ensures c.bank_number-4.ensures in
+    let note_is = ap₂ (λ v w. removal y (ByTwo x z v w c.from-3.result c.from-4.result)) (c.from.ensures ∙ byte_is _) (c.from-2.ensures ∙ byte_is _)
+    ∙ ap₂ (λ v w. removal y (ByTwo x z (bank_number c.best_with_two-best.result.at00.second) (bank_number c.best_with_two-best.result.at01.second) v w)) (c.from-3.ensures ∙ byte_is _) (c.from-4.ensures ∙ byte_is _) in
     record {
       left = two_done g.K.Kind.model g.met.K.Kind.lawful g.K.Kind.means J g.met.K.Kind.exact
           c.args.vars.now _ (take used all) _ y by _ c.best_with_two-best.result c.scores_of.result at

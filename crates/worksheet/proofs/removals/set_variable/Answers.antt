@@ -2,6 +2,7 @@ use Rattle.std.proofs.Common.{take, sym, ap, ◌∙◌}
 use Rattle.notes.specs.declared.removal.Way.TheVariants.{Set}
 use Rattle.notes.specs.Removals.{removal}
 use Rattle.sheets.specs.Changed.{handed}
+use Rattle.worksheet.proofs.Noted.{byte_is}
 use Rattle.worksheet.proofs.Removed.{set_done}
 use Rattle.worksheet.proofs.removals.set_variable.Goals as goal
 
@@ -14,4 +15,4 @@ returns-clause-left g c =
     (c.join.ensures ∙ ap (J c.args.base.now) c.at.ensures)
     (c.hand_over.ensures ∙ ap (λ vs. handed J y c.args.value vs c.first.result.now) c.leave.ensures ∙ ap (handed J y c.args.value _) c.first.ensures)
     c.drop_pairs.ensures.kept
-    (ap (λ v. removal y (Set v)) c.bank_number.ensures)
+    (ap (λ v. removal y (Set v)) (c.from.ensures ∙ byte_is _))
