@@ -58,7 +58,8 @@ pub fn present_at<K: Copy>(vars: &[Var<K>], y: u32) -> Option<Two<K>>
     vars.get(y as usize).copied().flatten()
 }
 
-// The scores of a variable without partners. Each of these three answers with what its own removal needs.
+// The scores of a variable without partners. These are three, since one for all would answer with an enum that each removal has
+// to take apart again.
 pub fn alone_at<K: Copy>(vars: &[Var<K>], pairs: &[Pair<K>], y: u32) -> Option<Two<K>>
     ensures { result ≡ alone_at vars.now pairs.now y }
 {

@@ -10,7 +10,7 @@ use score::choice::{Choice, better_of};
 use score::interface::Kind;
 use score::values::{Four, Two};
 
-// The greater, and the first if they are equal.
+// The greater, and the first if they are equal: as one term, a choice, which `better_of` says in three parts.
 pub fn better<K: Kind>(scores: Two<K>) -> Choice<K>
     ensures { result ≡ chosen K.Kind.model K.Kind.means scores.zero scores.one }
 {
@@ -89,7 +89,8 @@ fn stays<K: Copy>(pair: &Pair<K>, y: u32) -> bool
     !pair.touches(y)
 }
 
-// Removes a variable's pairs. The others keep their order. A lent slice has no `retain`, so the place is counted here.
+// Removes a variable's pairs. The others keep their order. A lent slice has no `retain`, so the place is counted here. The table
+// and its count are lent apart, a rule of the project.
 pub fn drop_pairs<K: Copy>(pairs: &mut [Pair<K>], used: usize, y: u32) -> usize
     ensures kept { take result pairs.new ≡ kept y (take used pairs.old) }
     ensures rest { drop used pairs.new ≡ drop used pairs.old }
@@ -140,6 +141,7 @@ fn join_pair_at<K: Kind>(pairs: &mut [Pair<K>], at: usize, scores: Four<K>)
 }
 
 // Joins four scores onto those of a pair in use, or adds the pair if there is none and it has room. Returns how many are in use.
+// The table and its count are lent apart, a rule of the project.
 pub fn post_pair<K: Kind>(
     pairs: &mut [Pair<K>],
     used: usize,
