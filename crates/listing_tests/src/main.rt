@@ -155,16 +155,13 @@ enum Place {
     Repeat(usize),
 }
 
+// What a digit stands for; 0 for a byte that is none.
 fn hex(b: u8) -> u8 {
-    match b {
-        b'0'..=b'9' => b - b'0',
-        b'a'..=b'f' => b - b'a' + 10,
-        _ => 0,
-    }
+    char::from(b).to_digit(16).unwrap_or(0) as u8
 }
 
 fn decimal(b: u8) -> usize {
-    usize::from(b.saturating_sub(b'0'))
+    char::from(b).to_digit(10).unwrap_or(0) as usize
 }
 
 fn add_byte(place: Place, b: u8, out: &mut Vec<u8>) -> Result<Place, AllocError> {
