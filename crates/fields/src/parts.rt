@@ -32,7 +32,8 @@ impl fmt::Display for BoardKind {
     }
 }
 
-// A part of a listing: the bytes of one field, where they stand, and the field's place.
+// A part of a listing: the bytes of one field, where they stand, and the field's place. It is plain and copied, so clauses name its
+// fields, and it has no model.
 #[derive(Clone, Copy)]
 pub struct Part<'a> {
     pub bytes: &'a [u8],

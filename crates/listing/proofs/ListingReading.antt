@@ -78,6 +78,7 @@ module _ {E : Type 0} (M : EntryForm E) (text : List ℕ) (s s' : Reader) (r : R
   stands_by [] e n = record { rest = n.1 ∙ sym e ∙ ap (λ k. drop k (lines text)) (sym n.2) }
   stands_by (l ∷ ls) e n = record { rest = n.1 ∙ sym (dropped s.line (lines text) l ls e) ∙ ap (λ k. drop k (lines text)) (sym n.2) }
 
+  -- said of the next line for callers: nothing here cites it
   pub reads_on : NextCommand M s s' r → NextCommandBy M (drop s.line (lines text)) s s' r × Stands text s'
   reads_on next =
       let n : NextCommandBy M (drop s.line (lines text)) s s' r = subst (λ ls. NextCommandBy M ls s s' r) st.rest next in

@@ -11,7 +11,8 @@ use std::marker::Model;
 
 pub(crate) const COMMA: u8 = b',';
 
-// A line, where it stands in a listing, without its line feed; and its number, from 1.
+// A line, where it stands in a listing, without its line feed; and its number, from 1. It is plain and copied, so clauses name its
+// fields, and it has no model.
 #[derive(Clone, Copy)]
 pub struct Line<'a> {
     pub text: &'a [u8],
