@@ -1,4 +1,5 @@
-// Joins over all records: of the better scores, and of the better entries of each pair onto its lower variable.
+// Joins over all records: of the better scores, and of the better entries of each pair onto its lower variable. Bounds loop over
+// the records' elements, a rule of the project.
 ghost use Rattle.std.specs.Prelude.{◌≡◌};
 ghost use Rattle.sheets.specs.Totals.{with_var, with_vars, with_pairs, low_bests, best_pair, with_arm, arms};
 
@@ -21,7 +22,11 @@ fn with_var<K: Kind>(total: K, var: &Var<K>) -> K
 pub fn with_vars<K: Kind>(base: K, vars: &[Var<K>]) -> K
     ensures { result ≡ with_vars K.Kind.model K.Kind.means K.Kind.held base vars.now }
 {
-    vars.iter().fold(base, with_var)
+    let mut total = base;
+    for var in vars {
+        total = with_var(total, var);
+    }
+    total
 }
 
 // The better entries of a pair, at each value of its lower variable.
@@ -58,9 +63,11 @@ fn best_pair<K: Kind>(pair: &Pair<K>) -> K
 pub fn with_pairs<K: Kind>(base: K, pairs: &[Pair<K>]) -> K
     ensures { result ≡ with_pairs K.Kind.model K.Kind.means K.Kind.held base pairs.now }
 {
-    pairs
-        .iter()
-        .fold(base, |total, pair| total.join(best_pair(pair)))
+    let mut total = base;
+    for pair in pairs {
+        total = total.join(best_pair(pair));
+    }
+    total
 }
 
 // The better entries of a pair are joined onto its lower variable's scores.

@@ -1,5 +1,5 @@
 -- The little boards, by carrying the steps out. Assumes nothing.
-use Rattle.std.proofs.Common.{◌≡◌, ℕ, ◌≤◌, Bool, true, false, cond, ◌&&◌, eqb, ltb, List, is_some, Some, None, Option, sym, refl, ap, ◌∙◌, subst₂, arith, lit≤}
+use Rattle.std.proofs.Common.{rules, ◌≡◌, ℕ, ◌≤◌, Bool, true, false, cond, ◌&&◌, eqb, ltb, List, is_some, Some, None, Option, sym, refl, ap, ◌∙◌, subst₂, arith, lit≤}
 use Rattle.std.proofs.lemmas.Bool.{both_ways, ltb-true, eqb-true, and_parts}
 use Rattle.std.specs.Option.{option_map}
 use Rattle.score.specs.Model.{Model}
@@ -62,6 +62,7 @@ margins_sound = unpinned_sound worst_model 2 _ _ (λ a b h.
 
 pub examples : Examples
 examples = record {
+  entries = search rules;
   one_in_total = worked total_model (blank total_model 1) _ _ 0 1 (blank_sound total_model 1) (lit≤ tt) refl refl refl;
   one_in_worst = worked worst_model (blank worst_model 1) _ _ 0 1 (blank_sound worst_model 1) (lit≤ tt) refl refl refl;
   three_differ = worked total_model (differing 3) _ _ 0 3 (differing_sound 3) (lit≤ tt) refl refl refl;

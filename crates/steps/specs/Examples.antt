@@ -1,5 +1,6 @@
 -- Little boards worked out by the steps, on the definitions. Assumes nothing.
 use Rattle.std.specs.Prelude.{◌≡◌, ℕ, zero, suc, Bool, true, false, cond, ◌&&◌, List, [], ◌∷◌, ◌++◌, ℤ, pos, Some, None, Option, ◌==◌, nat_lt}
+use Rattle.score.specs.Examples.{Examples as Scored}
 use Rattle.score.specs.Model.{Model}
 use Rattle.score.specs.Total.{total_model}
 use Rattle.score.specs.Worst.{worst_model}
@@ -55,7 +56,9 @@ margins =
     unpinned worst_model 2 (λ v. cond (v == 0) (ones (margin 6) (margin 3)) (λ _. Unlimited))
     (λ a b. cond (a == 0 && b == 1) (Some (fours (margin 4) (margin 7) (margin 7) (margin 9))) None)
 
+-- one set: the scores of entries at and beyond their limits, and the little boards
 pub record Examples : Type 0 where
+  pub entries : Scored
   pub one_in_total : Ends total_model (blank total_model 1) (pos 0) (false ∷ []) 0
   pub one_in_worst : Ends worst_model (blank worst_model 1) Unlimited (false ∷ []) 0
   pub three_differ : Ends total_model (differing 3) (pos 2) (true ∷ false ∷ false ∷ []) 0
