@@ -5,6 +5,8 @@ ghost use Rattle.calls.specs.Entries.{TwoTaken, FourTaken};
 use score::interface::Kind;
 use score::values::{Four, Two};
 
+// Two functions, since `Two` and `Four` are two types (`score::values`).
+
 // The scores of two entries, or `None` where the kind does not take one of them.
 pub fn score_two<K: Kind>(entries: Two<K::Entry>) -> Option<Two<K>>
     ensures { TwoTaken K.Kind.model K.Kind.means entries result }

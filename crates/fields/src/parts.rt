@@ -93,7 +93,8 @@ impl<'a> Part<'a> {
         Ok(value_of(digits))
     }
 
-    // A number from 0 to 4,294,967,295. Unlike `integer`, it takes no minus.
+    // A number from 0 to 4,294,967,295. Two functions, since they differ in the minus and the range; the rest is
+    // `unsigned` and `size`.
     pub fn natural(self) -> Result<u32, FieldFault>
         ensures { result ≡ answered (asked natural self.entry.place (bytes_of self.entry)) (value (bytes_of self.entry)) }
     {

@@ -13,7 +13,8 @@ pub enum Call {
     Score,
 }
 
-// The word of a board line, or that of a command: after the first line only a `Call` is read.
+// The word of a board line, or that of a command. Two types: after the first line only a `Call` is read, and a match on it has no
+// case for `board`.
 #[derive(Clone, Copy)]
 pub enum Word {
     Board,

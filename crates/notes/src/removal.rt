@@ -1,6 +1,6 @@
 // A removal of a variable from a worksheet, as it is noted.
 
-// How a variable left, and the value, 0 or 1, that it takes: plain numbers and no array, so that a note is read as it stands.
+// How a variable left, and the value, 0 or 1, that it takes: plain numbers and no array, a rule of the project.
 #[derive(Clone, Copy)]
 pub enum Way {
     // without partners

@@ -9,7 +9,7 @@ use std::marker::Model;
 
 pub const MOST_SPLITS: usize = 20;
 
-// A split: its variable, how many removals were noted before it, and whether value 1 has begun.
+// A split: its variable, how many removals were noted before it, and whether value 1 has begun, a flag on which no value hangs.
 #[derive(Clone, Copy)]
 pub struct Split {
     pub variable: u32,

@@ -10,7 +10,7 @@ pub fn read<T: Copy>(items: &[T], at: usize) -> Option<T>
     items.get(at).copied()
 }
 
-// Past the end nothing is written.
+// Past the end nothing is written. No `get_mut`: it leaves unsaid what the slice ends as.
 pub fn write<T: Copy>(items: &mut [T], at: usize, item: T)
     ensures { items.new ≡ slice_set items.old at item }
 {

@@ -73,8 +73,8 @@ pub fn leave<K: Copy>(vars: &mut [Var<K>], y: u32)
     write(vars, y as usize, None);
 }
 
-// Joins two scores onto a variable's, if it remains. The record is read and written back, since `get_mut` leaves unsaid what the
-// slice ends as.
+// Joins two scores onto a variable's, if it remains. The record is read and written back: `get_mut` leaves unsaid what the
+// slice ends as, and an index would be tested by hand.
 pub fn join_at<K: Kind>(vars: &mut [Var<K>], x: usize, scores: Two<K>)
     ensures { vars.new ≡ join_at K.Kind.held vars.old x scores }
 {

@@ -1,7 +1,7 @@
 -- What the steps do, as statements: each is proved for every score kind. Assumes nothing.
 use Rattle.std.specs.Prelude.{◌≡◌, ℕ, ◌+◌, ◌-◌, ◌*◌, ◌^◌, ◌<◌, ◌≤◌, Bool, true, cond, ◌⊎◌, List, length, is_some, Some, None, Option}
 use Rattle.score.specs.Model.{Model, better, exact_entries}
-use Rattle.steps.specs.Sheet.{Sheet, Sound, remains, over, two_score, value, put, busy}
+use Rattle.steps.specs.Sheet.{Sheet, Sound, remains, remaining, over, two_score, value, put, degree, busy}
 use Rattle.steps.specs.Change.{Values, choose, left_set}
 use Rattle.steps.specs.Start.{banks, unpinned, pinned, start, start_notes, pinned_at_once, with_pins, Keeps, board_busy}
 use Rattle.steps.specs.Counts.{Few, OfAll, JoinsExact}
@@ -67,6 +67,15 @@ abbrev pub ExploredAlways : {E S : Type 0} → Model E S → Type 0 → Type 0
 ExploredAlways {S = S} M V =
     (vs : Values V) (rule : Sheet V S → Option S) (s : Sheet V S) (notes : List (Note V)) (old : Option (Held V S))
     → Sound s → Outcome M vs rule s notes old
+
+-- Every step makes the worksheet smaller: fewer variables remain after a removal and after one is set, no more have three or more
+-- partners after a removal, and fewer after one of these is set. So a search holds no more notes than variables, and no more open
+-- splits than variables with three or more partners.
+pub record Shrinks {E S : Type 0} (M : Model E S) (V : Type 0) : Type 0 where
+  pub removal_fewer : (vs : Values V) (s : Sheet V S) (m : Note V) (s' : Sheet V S) → Sound s → Removal M vs s m s' → remaining s' < remaining s
+  pub removal_busy : (vs : Values V) (s : Sheet V S) (m : Note V) (s' : Sheet V S) → Sound s → Removal M vs s m s' → busy s' ≤ busy s
+  pub set_fewer : (s : Sheet V S) (y : ℕ) (c : V) → Sound s → remains s y ≡ true → remaining (left_set M y c s) < remaining s
+  pub set_busy : (vs : Values V) (s : Sheet V S) (y : ℕ) (c : V) → Sound s → remains s y ≡ true → 3 ≤ degree s y → busy (left_set M y c s) < busy s
 
 -- With two values there are at most 2 ^ k - 1 splits, k the variables with three or more partners; with m values
 -- (m ^ k - 1) / (m - 1).

@@ -17,10 +17,10 @@ pub trait Bound<K: Kind> {
     ghost rule: { Sheet Bool K.Score → Option K.Score };
 
     // The reply about the variables and the pairs in use. `work` is working memory and may end as it likes; where it is shorter
-    // than `vars`, nothing is said. Base, records and working memory are lent apart, a rule of the project.
+    // than `vars`, nothing is said and it is as found. Base, records and working memory are lent apart, a rule of the project.
     fn ask(base: K, vars: &[Var<K>], pairs: &[Pair<K>], work: &mut [Var<K>]) -> Option<K>
         ensures reply { Replies K.Kind.model K.Kind.means rule base vars.now pairs.now work.old result }
-        ensures short { length work.old < length vars.now → result ≡ None };
+        ensures short { length work.old < length vars.now → (result ≡ None) × (work.new ≡ work.old) };
 
     // a score that it replies with is at least the base joined with what any values of the remaining variables select
     ghost admissible: { Admissible K.Kind.model Bool rule };

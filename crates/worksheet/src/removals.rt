@@ -1,7 +1,8 @@
 // The removals of a variable from a worksheet: alone, by one partner, by two partners, and set.
 //
 // A call for a variable that does not remain, or has not so many partners, leaves all as found and returns `None`.
-// `pairs` and `used` are no struct: the tables and counts of several worksheets are lent apart, a rule of the project.
+// `base`, `vars`, `pairs` and `used` are no struct: the base scores, tables and counts of several worksheets are lent apart, a rule
+// of the project.
 ghost use Rattle.std.specs.Prelude.{◌≡◌, length, take, drop};
 ghost use Rattle.worksheet.specs.Does.{AloneDoes, OneDoes, TwoDoes, SetDoes};
 ghost use Rattle.worksheet.specs.Left.{AloneLeft, OneLeft, TwoLeft, SetLeft, WhereNone};

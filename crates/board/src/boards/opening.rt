@@ -35,7 +35,7 @@ impl<'a, K: Kind> Memory<'a, K> {
 }
 
 impl<'a, K: Kind> Board<'a, K> {
-    // Whether a board of n variables can be opened over these records.
+    // Whether a board of n variables can be opened over these records. It asks of shared slices, so before anything is lent.
     pub fn check(
         n: u32,
         vars: &[Var<K>],

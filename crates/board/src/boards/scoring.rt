@@ -36,7 +36,8 @@ fn pair_score<K: Kind>(pair: &Pair<K>, layout: &[u8]) -> K
     )
 }
 
-// Joins on the scores of the variables. Scoring loops over the records, here with their index, which says the layout's byte.
+// Joins on the scores of the variables. Scoring loops over the records, a rule of the project, here with their
+// index, which says the layout's byte.
 fn join_vars<K: Kind>(start: K, vars: &[Var<K>], layout: &[u8]) -> K
     ensures { JoinsOn K.Kind.model K.Kind.means (vars_at layout.now 0 vars.now) start [] result }
 {
@@ -59,7 +60,7 @@ fn join_pairs<K: Kind>(start: K, pairs: &[Pair<K>], layout: &[u8]) -> K
 }
 
 impl<'a, K: Kind> Board<'a, K> {
-    // A loop with its index, which says the variable: no word of the library has it.
+    // A loop with its index, which says the variable: tried as `enumerate` and `all`, which the check does not prove.
     fn keeps_pins(&self, layout: &[u8]) -> bool
         ensures { result ≡ keeps_pins (records_view self.now).pin 0 layout.now }
     {

@@ -19,7 +19,11 @@ impl<K: Kind> Bound<K> for Star {
     ghost admissible = { star_admissible K.Kind.model K.Kind.lawful };
 
     fn ask(base: K, vars: &[Var<K>], pairs: &[Pair<K>], work: &mut [Var<K>]) -> Option<K> {
-        let table = work.get_mut(..vars.len())?;
+        if vars.len() > work.len() {
+            return None;
+        }
+        // no `get_mut`: where it finds nothing, it leaves unsaid what the slice ends as
+        let table = &mut work[..vars.len()];
         table.copy_from_slice(vars);
         with_arms(table, pairs);
         Some(with_vars(base, table))
