@@ -17,7 +17,7 @@ use Rattle.board.specs.Tables.{Held}
 
 module _ {E S K : Type 0} (M : Model E S) (means : K → S) (n : ℕ) (vars : List (Var K)) (pairs : List (Pair K)) (history : List (Undo K)) where
   opened_so : (cleared : List (Var K)) (r : Var K) (h : Held K) → None ≡ not_opened n vars pairs history → Fresh M means r
-      → length cleared ≡ length vars → ((v : ℕ) → v < length vars → slice_get cleared v ≡ Some r) → h ≡ no_changes cleared pairs history n
+      → length cleared ≡ length vars → ((v : ℕ) → v < n → v < length vars → slice_get cleared v ≡ Some r) → h ≡ no_changes cleared pairs history n
       → Opened M means n vars pairs history h
   opened_so cleared r h e fr long each is =
       let yes' = all_yes (opening_questions n (length vars) (length pairs) (length history)) (sym e) in
@@ -36,7 +36,7 @@ module _ {E S K : Type 0} (M : Model E S) (means : K → S) (n : ℕ) (vars : Li
           n_small = n_small;
           valid = tt;
           traces = record {
-            vars = λ v below. (r, each v (omega (arith, below, n_small, vars_long)), record { zero = fr.scores false; one = fr.scores true; pin = fr.pin });
+            vars = λ v below. (r, each v below (omega (arith, below, n_small, vars_long)), record { zero = fr.scores false; one = fr.scores true; pin = fr.pin });
             keys = refl;
             pairs = tt;
           };
@@ -45,7 +45,7 @@ module _ {E S K : Type 0} (M : Model E S) (means : K → S) (n : ℕ) (vars : Li
       }
 
   pub opens : (reply : Result (Unit {0}) Refusal) (cleared : List (Var K)) (r : Var K) (h : Held K) → is_err reply ≡ false → refusal_in reply ≡ not_opened n vars pairs history → Fresh M means r
-      → length cleared ≡ length vars → ((v : ℕ) → v < length vars → slice_get cleared v ≡ Some r) → h ≡ no_changes cleared pairs history n
+      → length cleared ≡ length vars → ((v : ℕ) → v < n → v < length vars → slice_get cleared v ≡ Some r) → h ≡ no_changes cleared pairs history n
       → Opened M means n vars pairs history h
   opens (Ok x) cleared r h good e = opened_so cleared r h e
   opens (Err f) cleared r h bad e = absurd (true≢false bad)
