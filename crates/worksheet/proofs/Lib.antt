@@ -1,3 +1,4 @@
+pub mod Aboves
 pub mod Partners
 pub mod Leaving
 pub mod Onto

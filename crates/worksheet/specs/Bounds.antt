@@ -5,7 +5,7 @@ use Rattle.std.specs.Option.{option_map}
 use Rattle.score.specs.Model.{Model, better}
 use Rattle.steps.specs.Change.{own}
 use Rattle.steps.specs.Counts.{Few}
-use Rattle.steps.specs.Sheet.{Sheet, over, two_score}
+use Rattle.steps.specs.Sheet.{Sheet, over, two_score, value}
 use Rattle.steps.specs.Steps.{holding, dropped}
 use Rattle.records.specs.declared.pairs.Pair.{Pair}
 use Rattle.sheets.specs.Variables.{Var}
@@ -15,6 +15,12 @@ use Rattle.worksheet.specs.Records.{contents, Arranged}
 abbrev pub Replies : {E S K : Type 0} → Model E S → (K → S) → (Sheet Bool S → Option S) → K → List (Var K) → List (Pair K) → List (Var K) → Option K → Type 0
 Replies M means rule b vs ps work r =
     length vs ≤ length work → Arranged vs ps → Few M (contents means b vs ps) → option_map means r ≡ rule (contents means b vs ps)
+
+-- Where the reply is the rule's, it is at least what any values of the remaining variables select, joined with the base.
+abbrev pub Above : {E S K : Type 0} → Model E S → (K → S) → K → List (Var K) → List (Pair K) → List (Var K) → Option K → Type 0
+Above {K = K} M means b vs ps work r =
+    length vs ≤ length work → Arranged vs ps → Few M (contents means b vs ps)
+    → (k : K) → r ≡ Some k → (l : ℕ → Bool) → M.at_most (value M (contents means b vs ps) l) (means k) ≡ true
 
 -- A side is dropped as the steps say, whatever layout is held with the best.
 abbrev pub Drops : {E S K : Type 0} → Model E S → (K → S) → Option K → Option K → Bool → Type 0

@@ -6,7 +6,7 @@ pub mod star;
 ghost use Rattle.std.specs.Prelude.{◌≡◌, ◌<◌, Bool, length, None, Option};
 ghost use Rattle.steps.specs.Claims.{Admissible};
 ghost use Rattle.steps.specs.Sheet.{Sheet};
-ghost use Rattle.worksheet.specs.Bounds.{Replies, Drops};
+ghost use Rattle.worksheet.specs.Bounds.{Replies, Above, Drops};
 
 use records::pairs::Pair;
 use score::interface::Kind;
@@ -20,6 +20,7 @@ pub trait Bound<K: Kind> {
     // than `vars`, nothing is said and it is as found. Base, records and working memory are lent apart, a rule of the project.
     fn ask(base: K, vars: &[Var<K>], pairs: &[Pair<K>], work: &mut [Var<K>]) -> Option<K>
         ensures reply { Replies K.Kind.model K.Kind.means rule base vars.now pairs.now work.old result }
+        ensures above { Above K.Kind.model K.Kind.means base vars.now pairs.now work.old result }
         ensures short { length work.old < length vars.now → (result ≡ None) × (work.new ≡ work.old) };
 
     // a score that it replies with is at least the base joined with what any values of the remaining variables select

@@ -1,5 +1,8 @@
 use Rattle.std.proofs.Common.{Some, ap, ◌∙◌}
 use Rattle.sheets.specs.Totals.{with_vars, arms}
+use Rattle.worksheet.specs.Bounds.{star}
+use Rattle.worksheet.specs.Upper.{star_admissible}
+use Rattle.worksheet.proofs.Aboves.{above_all}
 use Rattle.worksheet.proofs.Replying.{star_replies}
 use Rattle.worksheet.proofs.bounds.star.StarBound.ask.Goals as goal
 
@@ -14,3 +17,9 @@ returns-clause-reply g c _ arranged few =
     (c.with_vars.ensures
     ∙ ap (with_vars M means J c.args.base) (c.with_arms.ensures ∙ ap (λ ws. arms M means J ws ps) c.copy_from_slice.ensures.after))
     ∙ ap Some (star_replies M g.met.K.Kind.lawful means J g.met.K.Kind.exact c.args.base vs ps arranged few)
+
+pub returns-clause-above : goal.returns-clause-above
+returns-clause-above g c =
+    let M = g.K.Kind.model in
+    above_all M g.K.Kind.means (star M) (star_admissible M g.met.K.Kind.lawful) c.args.base c.args.vars.now c.args.pairs.now c.args.work.now
+    (Some c.with_vars.result) (returns-clause-reply g c)
