@@ -155,13 +155,17 @@ enum Place {
     Repeat(usize),
 }
 
-// What a digit stands for; 0 for a byte that is none.
+// What a digit stands for. By hand: `to_digit` would take capital letters too, and has to be converted back.
 fn hex(b: u8) -> u8 {
-    char::from(b).to_digit(16).unwrap_or(0) as u8
+    match b {
+        b'0'..=b'9' => b - b'0',
+        b'a'..=b'f' => b - b'a' + 10,
+        _ => 0,
+    }
 }
 
 fn decimal(b: u8) -> usize {
-    char::from(b).to_digit(10).unwrap_or(0) as usize
+    usize::from(b.saturating_sub(b'0'))
 }
 
 fn add_byte(place: Place, b: u8, out: &mut Vec<u8>) -> Result<Place, AllocError> {
