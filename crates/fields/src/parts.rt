@@ -104,7 +104,7 @@ impl<'a> Part<'a> {
         u32::try_from(size).map_err(|_| FieldFault::OutOfRange(self.place))
     }
 
-    // A number from -2,147,483,648 to 2,147,483,647.
+    // A number from -2,147,483,648 to 2,147,483,647. Fewer digits than bytes say that there is a minus: a flag would say no more.
     pub fn integer(self) -> Result<i32, FieldFault>
         ensures { result ≡ answered (asked integer self.entry.place (bytes_of self.entry)) (signed_value (bytes_of self.entry)) }
     {

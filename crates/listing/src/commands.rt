@@ -19,7 +19,8 @@ pub struct Opening {
     pub kind: BoardKind,
 }
 
-// A line after the first. A post is a change to a board.
+// A line after the first. A post is a change to a board. No `Call`: the line has a layout's digits, a call has them in a buffer
+// that is sent with it.
 #[derive(Clone, Copy, Drop)]
 pub enum Command<'a, E> {
     Post(Change<E>),

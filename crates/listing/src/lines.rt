@@ -74,7 +74,8 @@ impl<'a> Line<'a> {
     }
 }
 
-// A field, and what stands after its comma; `None` where there is no comma.
+// A field, and what stands after its comma; `None` where there is no comma, which a field as long as the text says: a flag would
+// say no more.
 #[tactic(auto, using(crate::proofs::Splitting::pieces_cut, crate::proofs::Splitting::pieces_only))]
 fn first_field(text: &[u8]) -> (&[u8], Option<&[u8]>)
     ensures { FirstField text.now result }

@@ -69,8 +69,7 @@ ExploredAlways {S = S} M V =
     → Sound s → Outcome M vs rule s notes old
 
 -- Every step makes the worksheet smaller: fewer variables remain after a removal and after one is set, no more have three or more
--- partners after a removal, and fewer after one of these is set. So a search holds no more notes than variables, and no more open
--- splits than variables with three or more partners.
+-- partners after a removal, and fewer after one of these is set.
 pub record Shrinks {E S : Type 0} (M : Model E S) (V : Type 0) : Type 0 where
   pub removal_fewer : (vs : Values V) (s : Sheet V S) (m : Note V) (s' : Sheet V S) → Sound s → Removal M vs s m s' → remaining s' < remaining s
   pub removal_busy : (vs : Values V) (s : Sheet V S) (m : Note V) (s' : Sheet V S) → Sound s → Removal M vs s m s' → busy s' ≤ busy s

@@ -79,7 +79,7 @@ pub fn entries_stand<K: Kind, V>()
     ensures total { TotalsStand K.Kind.model V }
 {}
 
-// The little boards, worked out by the steps.
+// The worked examples: the little boards, and the scores of entries at and beyond their limits.
 #[tactic(auto, using(crate::proofs::Worked::examples))]
 pub fn examples_stand()
     ensures { Examples }

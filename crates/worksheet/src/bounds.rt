@@ -12,6 +12,7 @@ use records::pairs::Pair;
 use score::interface::Kind;
 use sheets::variables::Var;
 
+// Clauses name a kind's model and what its scores mean apart: a record of the two would be taken apart in each definition.
 pub trait Bound<K: Kind> {
     // what it replies about a worksheet's contents
     ghost rule: { Sheet Bool K.Score → Option K.Score };

@@ -111,7 +111,7 @@ fn show_removal(rt: HostRuntime, removal: Option<Removal>) -> anyhow::Result<()>
     Ok(())
 }
 
-// Asks a bound, and says whether this side would be dropped with such a best held.
+// Asks a bound, with records and working memory lent apart as its call has them, and says whether this side would be dropped with such a best held.
 fn show_bound<K: Kind + Display, B: Bound<K>>(
     rt: HostRuntime,
     name: &str,

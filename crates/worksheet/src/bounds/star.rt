@@ -22,7 +22,7 @@ impl<K: Kind> Bound<K> for Star {
         if vars.len() > work.len() {
             return None;
         }
-        // no `get_mut`: where it finds nothing, it leaves unsaid what the slice ends as
+        // no `get_mut`: it leaves unsaid what the slice ends as
         let table = &mut work[..vars.len()];
         table.copy_from_slice(vars);
         with_arms(table, pairs);
