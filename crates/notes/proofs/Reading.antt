@@ -40,7 +40,7 @@ read_length : (bs : List ℕ) (ns : List Removal) → length (read_back bs ns) �
 read_length bs [] = refl
 read_length bs (n ∷ ns) = length-set (read_back bs ns) n.variable _ ∙ read_length bs ns
 
-read_from : (ns : List Removal) (bs : List ℕ) → ReadFrom ns bs (read_back bs ns)
+pub read_from : (ns : List Removal) (bs : List ℕ) → ReadFrom ns bs (read_back bs ns)
 read_from [] bs h = refl
 read_from (n ∷ ns) bs h =
     settled_is (read_back bs ns) n (subst (λ k. n.variable < k) (sym (read_length bs ns)) h.0)

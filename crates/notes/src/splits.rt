@@ -1,8 +1,7 @@
 // The open splits, the newest at the top.
-ghost use Rattle.std.specs.Prelude.{◌≡◌, ◌≤◌, List, [], length, take, is_ok, is_some, nat_lt};
-ghost use Rattle.notes.specs.declared.splits.Split.{Split};
+ghost use Rattle.std.specs.Prelude.{◌≡◌, ◌≤◌, [], length, take, drop, is_ok, nat_lt};
 ghost use Rattle.notes.specs.declared.splits.TheConstants.{MOST_SPLITS};
-ghost use Rattle.notes.specs.Splits.{Bounded, at_one, pushed, begun, popped, top_of};
+ghost use Rattle.notes.specs.Splits.{Opened, Bounded, at_one, pushed, begun, popped, top_of};
 
 use crate::full::Full;
 use std::marker::Model;
@@ -32,11 +31,11 @@ pub struct Splits {
     count: usize,
 }
 
-// Clauses see the open splits, the oldest first.
+// Clauses see the open splits, the oldest first, and the records after them.
 impl Model for Splits {
-    ghost Value = { List Split };
+    ghost Value = { Opened };
 
-    ghost view = { λ s. take s.count s.table };
+    ghost view = { λ s. record { splits = take s.count s.table; spare = drop s.count s.table } };
 
     ghost invariant = { λ s. s.count ≤ MOST_SPLITS };
 }
@@ -44,7 +43,7 @@ impl Model for Splits {
 impl Splits {
     // Without an open split.
     pub fn new() -> Splits
-        ensures none { result ≡ [] }
+        ensures none { result.splits ≡ [] }
         ensures bounded { Bounded result }
     {
         let none = Split {
@@ -59,9 +58,10 @@ impl Splits {
     }
 
     // Opens a split at value 0. Where `MOST_SPLITS` are open, nothing changes.
+    #[tactic(auto, using(crate::proofs::Stacking::pushed_at))]
     pub fn push(&mut self, variable: u32, noted: usize) -> Result<(), Full>
         ensures pushed { self.new ≡ pushed self.old variable noted }
-        ensures room { is_ok result ≡ nat_lt (length self.old) MOST_SPLITS }
+        ensures room { is_ok result ≡ nat_lt (length self.old.splits) MOST_SPLITS }
     {
         let at = self.count;
         if at >= MOST_SPLITS {
@@ -96,6 +96,7 @@ impl Splits {
     }
 
     // Takes the newest away.
+    #[tactic(auto, using(crate::proofs::Stacking::popped_at))]
     pub fn pop(&mut self) -> Option<Split>
         ensures popped { self.new ≡ popped self.old }
         ensures there { result ≡ top_of self.old }
