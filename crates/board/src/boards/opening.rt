@@ -12,11 +12,13 @@ use records::pairs::Pair;
 use records::variables::Var;
 use score::interface::Kind;
 
-// Writes the same record at each place. No `fill`: it asks for a `Clone` that cannot fail, and a kind promises none.
-fn clear<K: Copy>(vars: &mut [Var<K>], fresh: Var<K>)
-    ensures { (v : ℕ) → v < length vars.old → slice_get vars.new v ≡ Some fresh }
+// Writes the same record at each of the first n places, however many more are lent. No `fill`: it asks for a `Clone` that cannot
+// fail, and a kind promises none.
+fn clear<K: Copy>(vars: &mut [Var<K>], n: usize, fresh: Var<K>)
+    ensures { (v : ℕ) → v < n → v < length vars.old → slice_get vars.new v ≡ Some fresh }
 {
-    for var in vars {
+    let first = n.min(vars.len());
+    for var in &mut vars[..first] {
         *var = fresh;
     }
 }
@@ -54,7 +56,7 @@ impl<'a, K: Kind> Board<'a, K> {
         if memory.check(n).is_err() {
             return Board::over(memory, 0);
         }
-        clear(memory.vars, Var::fresh());
+        clear(memory.vars, n as usize, Var::fresh());
         Board::over(memory, n as usize)
     }
 

@@ -1,4 +1,4 @@
-// How a change is written: the old contents into the history first, then the table, then the counts.
+// How a change is written: the old contents into the history first, where it counts as one more change, then the table.
 ghost use Rattle.std.specs.Prelude.{◌≡◌, ◌<◌, false, is_some};
 ghost use Rattle.calls.specs.Questions.{most_changes, most_pairs};
 ghost use Rattle.board.specs.Tables.{noted, replace_var, replace_pair, keep_pair, put_back, take_back, join_one, join_pair, set_pin};

@@ -12,4 +12,4 @@ pub returns : goal.returns
 returns g c =
     let memory = c.args.memory in
     opens g.K.Kind.model g.K.Kind.means c.args.n memory.vars.now memory.pairs.now memory.history.now c.check.result _ c.fresh.result _
-    (sym c.is_err.ensures.value ∙ c.if-is_err.false) c.check.ensures c.fresh.ensures c.clear.auto.vars (λ v _ inside. c.clear.ensures v inside) c.over-2.ensures
+    (sym c.is_err.ensures.value ∙ c.if-is_err.false) c.check.ensures c.fresh.ensures c.clear.auto.vars c.clear.ensures c.over-2.ensures
