@@ -8,7 +8,8 @@ use Rattle.partners.specs.declared.links.Links.TheVariants.{Alone, One, Two, Mor
 use Rattle.records.specs.declared.pairs.Link.{Link}
 use Rattle.records.specs.declared.pairs.Pair.{Pair}
 use Rattle.records.specs.Pairs.{link_of}
-use Rattle.sheets.specs.Variables.{Var}
+use Rattle.sheets.specs.declared.variables.Var.{Var}
+use Rattle.sheets.specs.Variables.{remaining}
 use Rattle.score.specs.declared.values.Two.{Two as Scores}
 
 module _ {K : Type 0} where
@@ -41,7 +42,7 @@ module _ {K : Type 0} where
 
   -- the scores of y, if y remains
   abbrev pub present_at : List (Var K) → ℕ → Option (Scores K)
-  present_at vs y = elim (slice_get vs y) [ None ↦ None | Some r ↦ r ]
+  present_at vs y = elim (slice_get vs y) [ None ↦ None | Some r ↦ remaining r ]
 
   abbrev pub with_no_link : Links K → Scores K → Option (Scores K)
   with_no_link Alone r = Some r

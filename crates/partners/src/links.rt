@@ -55,7 +55,7 @@ fn links_of<K: Copy>(pairs: &[Pair<K>], y: u32) -> Links<K>
 pub fn present_at<K: Copy>(vars: &[Var<K>], y: u32) -> Option<Two<K>>
     ensures { result ≡ present_at vars.now y }
 {
-    vars.get(y as usize).copied().flatten()
+    vars.get(y as usize).copied()?.remaining()
 }
 
 // The scores of a variable without partners. These are three, since one for all would answer with an enum that each removal has

@@ -9,7 +9,8 @@ use Rattle.score.specs.Values.{at_two, at_four}
 use Rattle.records.specs.declared.pairs.Link.{Link}
 use Rattle.records.specs.declared.pairs.Pair.{Pair}
 use Rattle.records.specs.Pairs.{touches, link_of, is_pair, joined_pair, place}
-use Rattle.sheets.specs.Variables.{Var, joined_var}
+use Rattle.sheets.specs.declared.variables.Var.{Var}
+use Rattle.sheets.specs.Variables.{joined_var}
 
 abbrev pub choose_held : {K : Type 0} → K → Bool → Choice K
 choose_held a t = record { score = a; second = t }

@@ -1,11 +1,12 @@
 -- Joins over all records: of the better scores, and of the better entries of each pair onto its lower variable. Assumes nothing.
-use Rattle.std.specs.Prelude.{List, Some, None}
+use Rattle.std.specs.Prelude.{List}
 use Rattle.std.specs.List.{fold}
 use Rattle.score.specs.Model.{Model}
 use Rattle.score.specs.declared.values.Two.{Two}
 use Rattle.records.specs.declared.pairs.Pair.{Pair}
 use Rattle.sheets.specs.Changed.{chosen, join_at}
-use Rattle.sheets.specs.Variables.{Var}
+use Rattle.sheets.specs.declared.variables.Var.{Var}
+use Rattle.sheets.specs.declared.variables.Var.TheVariants.{Remains, Left}
 
 module _ {E S K : Type 0} (M : Model E S) (means : K → S) where
   abbrev pub best_of_two : Two K → K
@@ -21,8 +22,8 @@ module _ {E S K : Type 0} (M : Model E S) (means : K → S) where
 module _ {E S K : Type 0} (M : Model E S) (means : K → S) (J : K → K → K) where
   -- a variable that remains is joined on
   abbrev pub with_var : K → Var K → K
-  with_var k None = k
-  with_var k (Some r) = J k (best_of_two M means r)
+  with_var k (Remains r) = J k (best_of_two M means r)
+  with_var k (Left r) = k
 
   abbrev pub with_vars : K → List (Var K) → K
   with_vars k vs = fold with_var k vs

@@ -1,5 +1,5 @@
 // What a step does to the records: the better of two, joins onto records, and variables and pairs that leave.
-ghost use Rattle.std.specs.Prelude.{◌≡◌, ◌≤◌, true, false, not, length, take, drop, None, slice_set};
+ghost use Rattle.std.specs.Prelude.{◌≡◌, ◌≤◌, true, false, not, length, take, drop, slice_set};
 ghost use Rattle.records.specs.Pairs.{touches};
 ghost use Rattle.sheets.specs.Changed.{chosen, worth, worth_one, worth_two, join_at, hand, handed, kept, join_pair_at, post_in, post_used, two_best, two_scores};
 
@@ -66,20 +66,20 @@ pub fn scores_of<K: Copy>(best: Four<Choice<K>>) -> Four<K>
     }
 }
 
-// Takes a variable away.
-pub fn leave<K: Copy>(vars: &mut [Var<K>], y: u32)
-    ensures { vars.new ≡ slice_set vars.old y None }
+// Takes a variable away: it has left, with these scores.
+pub fn leave<K: Copy>(vars: &mut [Var<K>], y: u32, scores: Two<K>)
+    ensures { vars.new ≡ slice_set vars.old y (Var.Left scores) }
 {
-    write(vars, y as usize, None);
+    write(vars, y as usize, Var::Left(scores));
 }
 
-// Joins two scores onto a variable's, if it remains. The record is read and written back: `get_mut` leaves unsaid what the
-// slice ends as, and an index would be tested by hand.
+// Joins two scores onto a variable's. The record is read and written back: `get_mut` leaves unsaid what the slice ends as, and an
+// index would be tested by hand.
 pub fn join_at<K: Kind>(vars: &mut [Var<K>], x: usize, scores: Two<K>)
     ensures { vars.new ≡ join_at K.Kind.held vars.old x scores }
 {
     if let Some(var) = read(vars, x) {
-        write(vars, x, var.map(|own| own.joined(scores)));
+        write(vars, x, var.joined(scores));
     }
 }
 

@@ -13,8 +13,8 @@ fn with_var<K: Kind>(total: K, var: &Var<K>) -> K
     ensures { result ≡ with_var K.Kind.model K.Kind.means K.Kind.held total var.now }
 {
     match *var {
-        Some(scores) => total.join(better(scores).score),
-        None => total,
+        Var::Remains(scores) => total.join(better(scores).score),
+        Var::Left(_) => total,
     }
 }
 

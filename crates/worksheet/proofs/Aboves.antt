@@ -5,7 +5,7 @@ use Rattle.score.specs.Model.{Model}
 use Rattle.steps.specs.Claims.{Admissible}
 use Rattle.steps.specs.Sheet.{Sheet}
 use Rattle.records.specs.declared.pairs.Pair.{Pair}
-use Rattle.sheets.specs.Variables.{Var}
+use Rattle.sheets.specs.declared.variables.Var.{Var}
 use Rattle.worksheet.specs.Bounds.{Replies, Above}
 use Rattle.worksheet.specs.Records.{contents}
 use Rattle.worksheet.proofs.Sound.{contents_sound}

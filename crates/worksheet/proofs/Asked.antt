@@ -8,10 +8,12 @@ use Rattle.partners.specs.declared.links.Links.{Links}
 use Rattle.partners.specs.declared.links.Links.TheVariants.{Alone, Two as Pairs, More}
 use Rattle.records.specs.declared.pairs.Link.{Link}
 use Rattle.records.specs.declared.pairs.Pair.{Pair}
-use Rattle.sheets.specs.Variables.{Var}
+use Rattle.sheets.specs.declared.variables.Var.{Var}
+use Rattle.sheets.specs.declared.variables.Var.TheVariants.{Remains, Left}
+use Rattle.sheets.specs.Variables.{remaining}
 use Rattle.score.specs.declared.values.Two.{Two}
 use Rattle.partners.specs.Links.{front, links, with_link, add_link, gather, present_at, with_no_link, with_one_link, with_two_links, alone_at, one_at, two_at}
-use Rattle.worksheet.specs.Records.{var_scores, var_says}
+use Rattle.worksheet.specs.Records.{var_says}
 use Rattle.std.specs.Option.{option_map}
 use Rattle.worksheet.proofs.Partners.{link_cases}
 
@@ -41,28 +43,30 @@ module _ {K : Type 0} where
       go true = stays_more ls
       go false = stays_more ls
 
-  pub present_is : (vs : List (Var K)) (y : ℕ) (r : Two K) → present_at vs y ≡ Some r → slice_get vs y ≡ Some (Some r)
+  pub present_is : (vs : List (Var K)) (y : ℕ) (r : Two K) → present_at vs y ≡ Some r → slice_get vs y ≡ Some (Remains r)
   present_is vs y r e = go (slice_get vs y) e
     where
-      go : (o : Option (Var K)) → (elim o [ None ↦ None | Some q ↦ q ]) ≡ Some r → o ≡ Some (Some r)
-      go None e = cc
-      go (Some q) e = ap Some e
+      go : (o : Option (Var K)) → (elim o [ None ↦ None | Some q ↦ remaining q ]) ≡ Some r → o ≡ Some (Remains r)
+      go None e = absurd cc
+      go (Some (Remains q)) e = ap (option_map Remains) e
+      go (Some (Left q)) e = absurd cc
 
   pub absent_is : {S : Type 0} (means : K → S) (vs : List (Var K)) (y : ℕ) → present_at vs y ≡ None → is_some (var_says means (slice_get vs y)) ≡ false
   absent_is means vs y e = go (slice_get vs y) e
     where
-      go : (o : Option (Var K)) → ◌≡◌ {A = Option (Two K)} (elim o [ None ↦ None | Some q ↦ q ]) None → is_some (var_says means o) ≡ false
+      go : (o : Option (Var K)) → ◌≡◌ {A = Option (Two K)} (elim o [ None ↦ None | Some q ↦ remaining q ]) None → is_some (var_says means o) ≡ false
       go None e = refl
-      go (Some q) e = ap (λ p. is_some (option_map (var_scores means) p)) e
+      go (Some (Remains q)) e = absurd cc
+      go (Some (Left q)) e = refl
 
   -- an answer has the variable's scores and what its links answer
   asked : {X : Type 0} (f : Links K → Two K → Option X) (vs : List (Var K)) (ps : List (Pair K)) (y : ℕ) (x : X)
       → (elim (present_at vs y) [ None ↦ None | Some r ↦ f (gather y Alone ps) r ]) ≡ Some x
-      → (r : Two K) × (slice_get vs y ≡ Some (Some r)) × (f (fold_links Alone (links y ps)) r ≡ Some x)
+      → (r : Two K) × (slice_get vs y ≡ Some (Remains r)) × (f (fold_links Alone (links y ps)) r ≡ Some x)
   asked {X} f vs ps y x e = go (present_at vs y) refl e
     where
       go : (o : Option (Two K)) → present_at vs y ≡ o → (elim o [ None ↦ None | Some r ↦ f (gather y Alone ps) r ]) ≡ Some x
-          → (r : Two K) × (slice_get vs y ≡ Some (Some r)) × (f (fold_links Alone (links y ps)) r ≡ Some x)
+          → (r : Two K) × (slice_get vs y ≡ Some (Remains r)) × (f (fold_links Alone (links y ps)) r ≡ Some x)
       go None is e = absurd cc
       go (Some r) is e = (r, present_is vs y r is, ap (λ k. f k r) (sym (gather_links y ps Alone)) ∙ e)
 
@@ -77,17 +81,17 @@ module _ {K : Type 0} where
       go (Some r) is e = (r, ap (λ k. f k r) (sym (gather_links y ps Alone)) ∙ e)
 
   pub alone_asked : (vs : List (Var K)) (ps : List (Pair K)) (y : ℕ) (r : Two K) → alone_at vs ps y ≡ Some r
-      → (slice_get vs y ≡ Some (Some r)) × (links y ps ≡ [])
+      → (slice_get vs y ≡ Some (Remains r)) × (links y ps ≡ [])
   alone_asked vs ps y r e =
       let q = asked with_no_link vs ps y r e in
       go (links y ps) q.0 q.1 q.2
     where
-      go : (ls : List (Link K)) (q : Two K) → slice_get vs y ≡ Some (Some q) → with_no_link (fold_links Alone ls) q ≡ Some r → (slice_get vs y ≡ Some (Some r)) × (ls ≡ [])
-      go [] q there e = (there ∙ ap Some e, refl)
+      go : (ls : List (Link K)) (q : Two K) → slice_get vs y ≡ Some (Remains q) → with_no_link (fold_links Alone ls) q ≡ Some r → (slice_get vs y ≡ Some (Remains r)) × (ls ≡ [])
+      go [] q there e = (there ∙ ap (option_map Remains) e, refl)
       go (a ∷ []) q there e = absurd cc
       go (a ∷ b ∷ []) q there e = two (ltb b.partner a.partner) e
         where
-          two : (t : Bool) → with_no_link (cond t (Pairs b a) (Pairs a b)) q ≡ Some r → (slice_get vs y ≡ Some (Some r)) × (a ∷ b ∷ [] ≡ [])
+          two : (t : Bool) → with_no_link (cond t (Pairs b a) (Pairs a b)) q ≡ Some r → (slice_get vs y ≡ Some (Remains r)) × (a ∷ b ∷ [] ≡ [])
           two true e = absurd cc
           two false e = absurd cc
       go (a ∷ b ∷ d ∷ ls) q there e = let m : None ≡ Some r = sym (ap (λ k. with_no_link k q) (three_more a b d ls)) ∙ e in absurd cc
@@ -101,19 +105,19 @@ module _ {K : Type 0} where
       go (a ∷ ls) r e h = omega (arith, h)
 
   pub one_asked : (vs : List (Var K)) (ps : List (Pair K)) (y : ℕ) (x : ByOne K) → one_at vs ps y ≡ Some x
-      → (slice_get vs y ≡ Some (Some x.var)) × (links y ps ≡ x.link ∷ [])
+      → (slice_get vs y ≡ Some (Remains x.var)) × (links y ps ≡ x.link ∷ [])
   one_asked vs ps y x e =
       let q = asked with_one_link vs ps y x e in
       go (links y ps) q.0 q.1 q.2
     where
-      go : (ls : List (Link K)) (q : Two K) → slice_get vs y ≡ Some (Some q) → with_one_link (fold_links Alone ls) q ≡ Some x → (slice_get vs y ≡ Some (Some x.var)) × (ls ≡ x.link ∷ [])
+      go : (ls : List (Link K)) (q : Two K) → slice_get vs y ≡ Some (Remains q) → with_one_link (fold_links Alone ls) q ≡ Some x → (slice_get vs y ≡ Some (Remains x.var)) × (ls ≡ x.link ∷ [])
       go [] q there e = absurd cc
       go (a ∷ []) q there e =
           let is : record { var = q; link = a } ≡ x = cc in
-          (there ∙ ap (λ b. Some (Some b.var)) is, ap (λ b. b.link ∷ []) is)
+          (there ∙ ap (λ b. Some (Remains b.var)) is, ap (λ b. b.link ∷ []) is)
       go (a ∷ b ∷ []) q there e = two (ltb b.partner a.partner) e
         where
-          two : (t : Bool) → with_one_link (cond t (Pairs b a) (Pairs a b)) q ≡ Some x → (slice_get vs y ≡ Some (Some x.var)) × (a ∷ b ∷ [] ≡ x.link ∷ [])
+          two : (t : Bool) → with_one_link (cond t (Pairs b a) (Pairs a b)) q ≡ Some x → (slice_get vs y ≡ Some (Remains x.var)) × (a ∷ b ∷ [] ≡ x.link ∷ [])
           two true e = absurd cc
           two false e = absurd cc
       go (a ∷ b ∷ d ∷ ls) q there e = let m : None ≡ Some x = sym (ap (λ k. with_one_link k q) (three_more a b d ls)) ∙ e in absurd cc
@@ -128,25 +132,25 @@ module _ {K : Type 0} where
       go (a ∷ b ∷ ls) r e h = omega (arith, h)
 
   pub two_asked : (vs : List (Var K)) (ps : List (Pair K)) (y : ℕ) (x : ByTwo K) → two_at vs ps y ≡ Some x
-      → (slice_get vs y ≡ Some (Some x.var)) × (x.low.partner ≤ x.high.partner) × ((links y ps ≡ x.low ∷ x.high ∷ []) ⊎ (links y ps ≡ x.high ∷ x.low ∷ []))
+      → (slice_get vs y ≡ Some (Remains x.var)) × (x.low.partner ≤ x.high.partner) × ((links y ps ≡ x.low ∷ x.high ∷ []) ⊎ (links y ps ≡ x.high ∷ x.low ∷ []))
   two_asked vs ps y x e =
       let q = asked with_two_links vs ps y x e in
       go (links y ps) q.0 q.1 q.2
     where
-      go : (ls : List (Link K)) (q : Two K) → slice_get vs y ≡ Some (Some q) → with_two_links (fold_links Alone ls) q ≡ Some x
-          → (slice_get vs y ≡ Some (Some x.var)) × (x.low.partner ≤ x.high.partner) × ((ls ≡ x.low ∷ x.high ∷ []) ⊎ (ls ≡ x.high ∷ x.low ∷ []))
+      go : (ls : List (Link K)) (q : Two K) → slice_get vs y ≡ Some (Remains q) → with_two_links (fold_links Alone ls) q ≡ Some x
+          → (slice_get vs y ≡ Some (Remains x.var)) × (x.low.partner ≤ x.high.partner) × ((ls ≡ x.low ∷ x.high ∷ []) ⊎ (ls ≡ x.high ∷ x.low ∷ []))
       go [] q there e = absurd cc
       go (a ∷ []) q there e = absurd cc
       go (a ∷ b ∷ []) q there e = two (ltb b.partner a.partner) refl e
         where
           two : (t : Bool) → ltb b.partner a.partner ≡ t → with_two_links (cond t (Pairs b a) (Pairs a b)) q ≡ Some x
-              → (slice_get vs y ≡ Some (Some x.var)) × (x.low.partner ≤ x.high.partner) × ((a ∷ b ∷ [] ≡ x.low ∷ x.high ∷ []) ⊎ (a ∷ b ∷ [] ≡ x.high ∷ x.low ∷ []))
+              → (slice_get vs y ≡ Some (Remains x.var)) × (x.low.partner ≤ x.high.partner) × ((a ∷ b ∷ [] ≡ x.low ∷ x.high ∷ []) ⊎ (a ∷ b ∷ [] ≡ x.high ∷ x.low ∷ []))
           two true t e =
               let is : record { var = q; low = b; high = a } ≡ x = cc in
-              (there ∙ ap (λ d. Some (Some d.var)) is, subst (λ d. d.low.partner ≤ d.high.partner) is (omega (arith, ltb-true b.partner a.partner t)), inr (ap (λ d. d.high ∷ d.low ∷ []) is))
+              (there ∙ ap (λ d. Some (Remains d.var)) is, subst (λ d. d.low.partner ≤ d.high.partner) is (omega (arith, ltb-true b.partner a.partner t)), inr (ap (λ d. d.high ∷ d.low ∷ []) is))
           two false t e =
               let is : record { var = q; low = a; high = b } ≡ x = cc in
-              (there ∙ ap (λ d. Some (Some d.var)) is, subst (λ d. d.low.partner ≤ d.high.partner) is (ltb-false b.partner a.partner t), inl (ap (λ d. d.low ∷ d.high ∷ []) is))
+              (there ∙ ap (λ d. Some (Remains d.var)) is, subst (λ d. d.low.partner ≤ d.high.partner) is (ltb-false b.partner a.partner t), inl (ap (λ d. d.low ∷ d.high ∷ []) is))
       go (a ∷ b ∷ d ∷ ls) q there e = let m : None ≡ Some x = sym (ap (λ k. with_two_links k q) (three_more a b d ls)) ∙ e in absurd cc
 
   pub two_unasked : {S : Type 0} (means : K → S) (vs : List (Var K)) (ps : List (Pair K)) (y : ℕ) → two_at vs ps y ≡ None

@@ -12,7 +12,8 @@ use Rattle.records.specs.declared.pairs.Link.{Link}
 use Rattle.records.specs.declared.pairs.Pair.{Pair}
 use Rattle.score.specs.declared.values.Two.{Two}
 use Rattle.score.specs.declared.values.Four.{Four}
-use Rattle.sheets.specs.Variables.{Var}
+use Rattle.sheets.specs.declared.variables.Var.{Var}
+use Rattle.sheets.specs.declared.variables.Var.TheVariants.{Remains}
 use Rattle.sheets.specs.Changed.{row, hand, handed}
 use Rattle.partners.specs.Links.{front, links, first_link}
 use Rattle.score.specs.Values.{at_two, at_four}
@@ -64,7 +65,7 @@ module _ {E S K : Type 0} (M : Model E S) (laws : Laws M) (means : K → S) (J :
   handed_to ls v = two_score M (option_map (link_scores means) (first_link v ls)) c
 
   abbrev ExactHand : List (Var K) → List (Link K) → Type 0
-  ExactHand vs ls = (x : ℕ) (l : Link K) (r : Two K) → first_link x ls ≡ Some l → slice_get vs x ≡ Some (Some r) → (u : Bool)
+  ExactHand vs ls = (x : ℕ) (l : Link K) (r : Two K) → first_link x ls ≡ Some l → slice_get vs x ≡ Some (Remains r) → (u : Bool)
       → means (J (at_two r u) (at_four l.scores c u)) ≡ M.join (means (at_two r u)) (link_scores means l c u)
 
   onto_nothing : (o : Option (Bool → S)) → option_map (onto_scores M (λ _. M.neutral)) o ≡ o

@@ -7,7 +7,8 @@ use Rattle.std.proofs.lemmas.Bool.{eq-eqb, ne_eqb, eqb-true, eqb-false, cases_eq
 use Rattle.steps.specs.Change.{without}
 use Rattle.records.specs.declared.pairs.Pair.{Pair}
 use Rattle.score.specs.declared.values.Two.{Two}
-use Rattle.sheets.specs.Variables.{Var}
+use Rattle.sheets.specs.declared.variables.Var.{Var}
+use Rattle.sheets.specs.declared.variables.Var.TheVariants.{Remains, Left}
 use Rattle.sheets.specs.Changed.{kept}
 use Rattle.partners.specs.Links.{front, links}
 use Rattle.records.specs.Pairs.{touches, is_pair}
@@ -98,22 +99,23 @@ module _ {K : Type 0} (y : ℕ) where
       subst (λ n. n < suc (length ps)) (sym (ap length (kept_yes p ps (or_from (eqb p.low y) (eqb p.high y) (ne_eqb p.low y d) (ne_eqb p.high y f))))) (omega arith))
       h
 
-module _ {K : Type 0} (vs : List (Var K)) (y : ℕ) (r : Two K) (there : slice_get vs y ≡ Some (Some r)) where
-  pub gone_says : {S : Type 0} (means : K → S) (v : ℕ) → var_says means (slice_get (set vs y None) v) ≡ cond (eqb v y) None (var_says means (slice_get vs v))
+-- gone: the scores with which y has left
+module _ {K : Type 0} (vs : List (Var K)) (y : ℕ) (r gone : Two K) (there : slice_get vs y ≡ Some (Remains r)) where
+  pub gone_says : {S : Type 0} (means : K → S) (v : ℕ) → var_says means (slice_get (set vs y (Left gone)) v) ≡ cond (eqb v y) None (var_says means (slice_get vs v))
   gone_says means v =
       ⊎_elim
       (λ (e : v ≡ y).
-      ap (λ x. var_says means (slice_get (set vs y None) x)) e
-      ∙ ap (var_says means) (nth_set_same vs y None (slice_get_within vs y (Some r) there))
+      ap (λ x. var_says means (slice_get (set vs y (Left gone)) x)) e
+      ∙ ap (var_says means) (nth_set_same vs y (Left gone) (slice_get_within vs y (Remains r) there))
       ∙ sym (cond-true (eqb v y) None (var_says means (slice_get vs v)) (eq-eqb v y e)))
-      (λ (e : v ≡ y → ⊥). ap (var_says means) (nth_set_other vs y v None e) ∙ sym (cond-false (eqb v y) None (var_says means (slice_get vs v)) (ne_eqb v y e)))
+      (λ (e : v ≡ y → ⊥). ap (var_says means) (nth_set_other vs y v (Left gone) e) ∙ sym (cond-false (eqb v y) None (var_says means (slice_get vs v)) (ne_eqb v y e)))
       (cases_eq v y)
 
   -- the records say the sheet without y
   pub leaving : {S : Type 0} (means : K → S) (base : K) (ps : List (Pair K))
-      → contents means base (set vs y None) (kept y ps) ≡ without y (contents means base vs ps)
+      → contents means base (set vs y (Left gone)) (kept y ps) ≡ without y (contents means base vs ps)
   leaving {S} means base ps = λ i. record {
-    size = length-set vs y None i;
+    size = length-set vs y (Left gone) i;
     base = means base;
     one = λ v. gone_says means v i;
     two = λ a b. two_is a b i;
@@ -123,23 +125,23 @@ module _ {K : Type 0} (vs : List (Var K)) (y : ℕ) (r : Two K) (there : slice_g
       two_is a b =
           ap (option_map (pair_scores means)) (found_kept y ps a b)
           ∙ ⊎_elim
-          (λ (t : (eqb a y || eqb b y) ≡ true). ap (option_map (pair_scores means)) (cond-true _ None (found a b ps) t) ∙ sym (cond-true _ None (option_map (pair_scores means) (found a b ps)) t))
-          (λ (t : (eqb a y || eqb b y) ≡ false). ap (option_map (pair_scores means)) (cond-false _ None (found a b ps) t) ∙ sym (cond-false _ None (option_map (pair_scores means) (found a b ps)) t))
+          (λ (e : (eqb a y || eqb b y) ≡ true). ap (option_map (pair_scores means)) (cond-true _ None (found a b ps) e) ∙ sym (cond-true _ None (option_map (pair_scores means) (found a b ps)) e))
+          (λ (e : (eqb a y || eqb b y) ≡ false). ap (option_map (pair_scores means)) (cond-false _ None (found a b ps) e) ∙ sym (cond-false _ None (option_map (pair_scores means) (found a b ps)) e))
           (cases_Bool (eqb a y || eqb b y))
 
-  pub gone_present : (v : ℕ) → (v ≡ y → ⊥) → Present vs v → Present (set vs y None) v
-  gone_present v d h = (h.0, nth_set_other vs y v None d ∙ h.1)
+  pub gone_present : (v : ℕ) → (v ≡ y → ⊥) → Present vs v → Present (set vs y (Left gone)) v
+  gone_present v d h = (h.0, nth_set_other vs y v (Left gone) d ∙ h.1)
 
-  gone_placed : (ps : List (Pair K)) → AllByRecursion (Placed vs) ps → AllByRecursion (Placed (set vs y None)) (kept y ps)
+  gone_placed : (ps : List (Pair K)) → AllByRecursion (Placed vs) ps → AllByRecursion (Placed (set vs y (Left gone))) (kept y ps)
   gone_placed [] h = tt
   gone_placed (p ∷ ps) h =
       ⊎_elim
-      (λ (e : touches y p ≡ true). subst (AllByRecursion (Placed (set vs y None))) (sym (kept_no y p ps e)) (gone_placed ps h.1))
+      (λ (e : touches y p ≡ true). subst (AllByRecursion (Placed (set vs y (Left gone)))) (sym (kept_no y p ps e)) (gone_placed ps h.1))
       (λ (e : touches y p ≡ false).
       let q = or_parts (eqb p.low y) (eqb p.high y) e in
       let d = eqb-false p.low y q.0 in
       let f = eqb-false p.high y q.1 in
-      subst (AllByRecursion (Placed (set vs y None))) (sym (kept_yes y p ps e)) (
+      subst (AllByRecursion (Placed (set vs y (Left gone)))) (sym (kept_yes y p ps e)) (
         record { lower_first = h.0.lower_first; low_present = gone_present p.low d h.0.low_present; high_present = gone_present p.high f h.0.high_present },
         gone_placed ps h.1,
       ))
@@ -155,5 +157,5 @@ module _ {K : Type 0} (vs : List (Var K)) (y : ℕ) (r : Two K) (there : slice_g
       (found_kept y ps p.low p.high ∙ cond-false _ None (found p.low p.high ps) e ∙ h.0, kept_apart ps h.1))
       (cases_Bool (touches y p))
 
-  pub leaving_arranged : (ps : List (Pair K)) → Arranged vs ps → Arranged (set vs y None) (kept y ps)
+  pub leaving_arranged : (ps : List (Pair K)) → Arranged vs ps → Arranged (set vs y (Left gone)) (kept y ps)
   leaving_arranged ps a = record { placed = gone_placed ps a.placed; apart = kept_apart ps a.apart }

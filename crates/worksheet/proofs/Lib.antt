@@ -12,3 +12,4 @@ pub mod Running
 pub mod Replying
 pub mod Sound
 pub mod Order
+pub mod Does

@@ -12,9 +12,11 @@ use Rattle.records.specs.declared.pairs.Pair.{Pair}
 use Rattle.score.specs.declared.values.Two.{Two}
 use Rattle.sheets.specs.Changed.{join_at, post}
 use Rattle.records.specs.Pairs.{joined_pair, is_pair}
-use Rattle.sheets.specs.Variables.{Var, joined_var}
+use Rattle.sheets.specs.declared.variables.Var.{Var}
+use Rattle.sheets.specs.declared.variables.Var.TheVariants.{Remains, Left}
+use Rattle.sheets.specs.Variables.{joined_var}
 use Rattle.score.specs.Values.{at_two, joined_two, at_four, joined_four}
-use Rattle.worksheet.specs.Records.{found, var_scores, var_says, pair_scores, contents, Present, Placed, Apart}
+use Rattle.worksheet.specs.Records.{found, var_says, pair_scores, contents, Present, Placed, Apart}
 use Rattle.std.proofs.lemmas.Option.{slice_get_within}
 use Rattle.records.proofs.Lists.{nth_set_same, nth_set_other}
 use Rattle.worksheet.proofs.Partners.{found_here, found_on_low, found_on_high}
@@ -30,7 +32,7 @@ joined_four_at J f g true false = refl
 joined_four_at J f g true true = refl
 
 module _ {K : Type 0} (J : K → K → K) (vs : List (Var K)) (x : ℕ) (t : Two K) where
-  join_at_some : (r : Var K) → slice_get vs x ≡ Some r → join_at J vs x t ≡ set vs x (joined_var J r t)
+  pub join_at_some : (r : Var K) → slice_get vs x ≡ Some r → join_at J vs x t ≡ set vs x (joined_var J r t)
   join_at_some r e = ap (λ q. elim q [ None ↦ vs | Some r ↦ set vs x (joined_var J r t) ]) e
 
   pub join_at_other : (v : ℕ) → (v ≡ x → ⊥) → slice_get (join_at J vs x t) v ≡ slice_get vs v
@@ -50,10 +52,10 @@ module _ {K : Type 0} (J : K → K → K) (vs : List (Var K)) (x : ℕ) (t : Two
       go None = refl
       go (Some r) = length-set vs x (joined_var J r t)
 
-  join_at_present : (v : ℕ) → Present vs v → Present (join_at J vs x t) v
+  pub join_at_present : (v : ℕ) → Present vs v → Present (join_at J vs x t) v
   join_at_present v h =
       ⊎_elim
-      (λ (e : v ≡ x). (joined_two J h.0 t, ap (slice_get (join_at J vs x t)) e ∙ join_at_same (Some h.0) (ap (slice_get vs) (sym e) ∙ h.1)))
+      (λ (e : v ≡ x). (joined_two J h.0 t, ap (slice_get (join_at J vs x t)) e ∙ join_at_same (Remains h.0) (ap (slice_get vs) (sym e) ∙ h.1)))
       (λ (e : v ≡ x → ⊥). (h.0, join_at_other v e ∙ h.1))
       (cases_eq v x)
 
@@ -65,15 +67,15 @@ module _ {K : Type 0} (J : K → K → K) (vs : List (Var K)) (x : ℕ) (t : Two
   )
 
 module _ {E S K : Type 0} (M : Model E S) (means : K → S) (J : K → K → K) (vs : List (Var K)) (x : ℕ) (t : Two K) (g : Bool → S)
-    (exact : (r : Two K) → slice_get vs x ≡ Some (Some r) → (u : Bool) → means (J (at_two r u) (at_two t u)) ≡ M.join (means (at_two r u)) (g u)) where
+    (exact : (r : Two K) → slice_get vs x ≡ Some (Remains r) → (u : Bool) → means (J (at_two r u) (at_two t u)) ≡ M.join (means (at_two r u)) (g u)) where
   -- what x then says
   pub joined_says : var_says means (slice_get (join_at J vs x t) x) ≡ option_map (onto_scores M g) (var_says means (slice_get vs x))
   joined_says = go (slice_get vs x) refl
     where
       there : (r : Var K) → slice_get vs x ≡ Some r
-          → option_map (var_scores means) (joined_var J r t) ≡ option_map (onto_scores M g) (option_map (var_scores means) r)
-      there None e = refl
-      there (Some r) e = ap Some (fun_ext (λ u. ap means (joined_two_at J r t u) ∙ exact r e u))
+          → var_says means (Some (joined_var J r t)) ≡ option_map (onto_scores M g) (var_says means (Some r))
+      there (Remains r) e = ap Some (fun_ext (λ u. ap means (joined_two_at J r t u) ∙ exact r e u))
+      there (Left r) e = refl
 
       go : (q : Option (Var K)) → slice_get vs x ≡ q → var_says means (slice_get (join_at J vs x t) x) ≡ option_map (onto_scores M g) (var_says means q)
       go None e = ap (λ q. var_says means (slice_get (elim q [ None ↦ vs | Some r ↦ set vs x (joined_var J r t) ]) x)) e ∙ ap (var_says means) e

@@ -10,7 +10,8 @@ use Rattle.steps.proofs.Counting.{but, count_one, count_same, count_zero}
 use Rattle.score.specs.declared.values.Four.{Four}
 use Rattle.records.specs.declared.pairs.Link.{Link}
 use Rattle.records.specs.declared.pairs.Pair.{Pair}
-use Rattle.sheets.specs.Variables.{Var}
+use Rattle.sheets.specs.declared.variables.Var.{Var}
+use Rattle.sheets.specs.declared.variables.Var.TheVariants.{Remains}
 use Rattle.partners.specs.Links.{front, links, first_link}
 use Rattle.score.specs.Values.{at_four, turned_four}
 use Rattle.records.specs.Pairs.{link, link_of, is_pair}
@@ -160,12 +161,12 @@ module _ {K : Type 0} (vs : List (Var K)) where
       let firsts = low_first vs ps h.1 in
       link_cases y p (λ o. Distinct (length vs) (front o (links y ps)))
       (λ is. (
-        slice_get_within vs p.high (Some h.0.high_present.0) h.0.high_present.1,
+        slice_get_within vs p.high (Remains h.0.high_present.0) h.0.high_present.1,
         mapped_none (link_scores (λ (k : K). k)) _ (sym (links_higher (λ (k : K). k) ps firsts y p.high (omega (arith, is, low))) ∙ ap (option_map (pair_scores (λ (k : K). k))) (subst (λ x. found x p.high ps ≡ None) is a.0)),
         rest,
       ))
       (λ isnt is. (
-        slice_get_within vs p.low (Some h.0.low_present.0) h.0.low_present.1,
+        slice_get_within vs p.low (Remains h.0.low_present.0) h.0.low_present.1,
         mapped_none (link_scores (λ (k : K). k)) _ (sym (links_lower (λ (k : K). k) ps firsts y p.low (omega (arith, is, low))) ∙ ap (λ o. option_map turned (option_map (pair_scores (λ (k : K). k)) o)) (subst (λ x. found p.low x ps ≡ None) is a.0)),
         rest,
       ))

@@ -21,7 +21,8 @@ use Rattle.score.specs.declared.values.Four.{Four}
 use Rattle.records.specs.declared.pairs.Link.{Link}
 use Rattle.records.specs.declared.pairs.Pair.{Pair}
 use Rattle.score.specs.declared.values.Two.{Two}
-use Rattle.sheets.specs.Variables.{Var}
+use Rattle.sheets.specs.declared.variables.Var.{Var}
+use Rattle.sheets.specs.declared.variables.Var.TheVariants.{Remains, Left}
 use Rattle.sheets.specs.Changed.{chosen, choose_held, worth_one, worth_two, two_best, two_scores, join_at, handed, kept, post}
 use Rattle.worksheet.specs.Left.{AloneLeft, OneLeft, TwoLeft, SetLeft}
 use Rattle.partners.specs.Links.{links, first_link, present_at, alone_at, one_at, two_at}
@@ -59,7 +60,7 @@ module _ {E S K : Type 0} (M : Model E S) (means : K → S) where
       go false = q
 
 module _ {E S K : Type 0} (M : Model E S) (means : K → S) (b : K) (vs : List (Var K)) (ps : List (Pair K)) (arranged : Arranged vs ps)
-    (y : ℕ) (r : Two K) (there : slice_get vs y ≡ Some (Some r)) where
+    (y : ℕ) (r : Two K) (there : slice_get vs y ≡ Some (Remains r)) where
   abbrev sheet : Sheet Bool S
   sheet = contents means b vs ps
 
@@ -117,10 +118,10 @@ module _ {E S K : Type 0} (M : Model E S) (laws : Laws M) (means : K → S) (J :
 
   -- Alone --------------------------------------------------------------------------------------------------------------------------
 
-  pub alone_done : (b b' : K) (vs vs' : List (Var K)) (ps : List (Pair K)) (y : ℕ) (r : Two K) (n : Removal)
-      → alone_at vs ps y ≡ Some r → b' ≡ J b (chosen M means r.zero r.one).score → vs' ≡ set vs y None
+  pub alone_done : (b b' : K) (vs vs' : List (Var K)) (ps : List (Pair K)) (y : ℕ) (r gone : Two K) (n : Removal)
+      → alone_at vs ps y ≡ Some r → b' ≡ J b (chosen M means r.zero r.one).score → vs' ≡ set vs y (Left gone)
       → n ≡ alone_note y (chosen M means r.zero r.one) → AloneLeft M means b b' vs vs' ps y (Some n)
-  alone_done b b' vs vs' ps y r n at b_is vs_is n_is arranged =
+  alone_done b b' vs vs' ps y r gone n at b_is vs_is n_is arranged =
       let q = alone_asked vs ps y r at in
       let s = contents means b vs ps in
       let all : kept y ps ≡ ps = kept_all y ps q.1 in
@@ -129,14 +130,14 @@ module _ {E S K : Type 0} (M : Model E S) (laws : Laws M) (means : K → S) (J :
         present,
         degree_is M means b vs ps arranged y r q.0 0 [] q.1 refl,
         record {
-          arranged = subst (λ ws. Arranged ws ps) (sym vs_is) (subst (Arranged (set vs y None)) all (leaving_arranged vs y r q.0 ps arranged));
-          others = λ v h. ap (λ ws. slice_get ws v) vs_is ∙ nth_set_other vs y v None (eqb-false v y h);
+          arranged = subst (λ ws. Arranged ws ps) (sym vs_is) (subst (Arranged (set vs y (Left gone))) all (leaving_arranged vs y r gone q.0 ps arranged));
+          others = λ v h. ap (λ ws. slice_get ws v) vs_is ∙ nth_set_other vs y v (Left gone) (eqb-false v y h);
           other_pairs = λ _ _ _. refl;
           note_is = λ _. ap note_of n_is ∙ alone_means y (chosen M means r.zero r.one) ∙ ap (λ c. noted y (alone c)) (bank_second M means y (own M s y) r.zero r.one (sym (own_y false)) (sym (own_y true)));
           says_is = λ jx.
               ap₂ (λ c ws. contents means c ws ps) b_is vs_is
-              ∙ ap (contents means (J b (chosen M means r.zero r.one).score) (set vs y None)) (sym all)
-              ∙ leaving vs y r q.0 means (J b (chosen M means r.zero r.one).score) ps
+              ∙ ap (contents means (J b (chosen M means r.zero r.one).score) (set vs y (Left gone))) (sym all)
+              ∙ leaving vs y r gone q.0 means (J b (chosen M means r.zero r.one).score) ps
               ∙ ap (λ c. based c (without y s))
               (exactly b _ s.base _ refl (bank_score M means y (own M s y) r.zero r.one (sym (own_y false)) (sym (own_y true))) (jx.onto_base y (choose M banks y (own M s y)) present));
         },
@@ -148,13 +149,13 @@ module _ {E S K : Type 0} (M : Model E S) (laws : Laws M) (means : K → S) (J :
 
   -- By one -------------------------------------------------------------------------------------------------------------------------
 
-  pub one_done : (vs vs' : List (Var K)) (ps ps' : List (Pair K)) (y : ℕ) (x : ByOne K) (n : Removal) (at0 at1 : Choice K)
+  pub one_done : (vs vs' : List (Var K)) (ps ps' : List (Pair K)) (y : ℕ) (x : ByOne K) (gone : Two K) (n : Removal) (at0 at1 : Choice K)
       → one_at vs ps y ≡ Some x
       → at0 ≡ chosen M means (worth_one J x.var x.link false false) (worth_one J x.var x.link false true)
       → at1 ≡ chosen M means (worth_one J x.var x.link true false) (worth_one J x.var x.link true true)
-      → vs' ≡ join_at J (set vs y None) x.link.partner (record { zero = at0.score; one = at1.score })
+      → vs' ≡ join_at J (set vs y (Left gone)) x.link.partner (record { zero = at0.score; one = at1.score })
       → ps' ≡ kept y ps → n ≡ one_note y x.link.partner at0 at1 → OneLeft M means vs vs' ps ps' y (Some n)
-  one_done vs vs' ps ps' y by n at0 at1 at at0_is at1_is vs_is ps_is n_is b arranged =
+  one_done vs vs' ps ps' y by gone n at0 at1 at at0_is at1_is vs_is ps_is n_is b arranged =
       let q = one_asked vs ps y by at in
       let s = contents means b vs ps in
       let r = by.var in
@@ -165,7 +166,7 @@ module _ {E S K : Type 0} (M : Model E S) (laws : Laws M) (means : K → S) (J :
       let apart : x ≡ y → ⊥ = other_is M means b vs ps arranged y r q.0 x partner in
       let own_y = own_is M means b vs ps arranged y r q.0 in
       let both_y = both_is M means b vs ps arranged y r q.0 x l first in
-      let left = leaving_arranged vs y r q.0 ps arranged in
+      let left = leaving_arranged vs y r gone q.0 ps arranged in
       let worth : JoinsExact M s → (u w : Bool) → means (worth_one J r l u w) ≡ with_one M s y x u w
       = λ jx u w. exactly _ _ _ _ (sym (own_y w)) (sym (both_y w u)) (jx.with_pair y x w u partner) in
       let seconds : JoinsExact M s → (u : Bool) → cond u at1.second at0.second ≡ choose M banks y (with_one M s y x u)
@@ -181,23 +182,23 @@ module _ {E S K : Type 0} (M : Model E S) (laws : Laws M) (means : K → S) (J :
         degree_is M means b vs ps arranged y r q.0 1 (l ∷ []) q.1 refl,
         partner,
         record {
-          arranged = subst (λ ws. Arranged ws ps') (sym vs_is) (subst (Arranged (join_at J (set vs y None) x (record { zero = at0.score; one = at1.score }))) (sym ps_is)
-              (record { placed = join_at_placed J (set vs y None) x (record { zero = at0.score; one = at1.score }) (kept y ps) left.placed; apart = left.apart }));
+          arranged = subst (λ ws. Arranged ws ps') (sym vs_is) (subst (Arranged (join_at J (set vs y (Left gone)) x (record { zero = at0.score; one = at1.score }))) (sym ps_is)
+              (record { placed = join_at_placed J (set vs y (Left gone)) x (record { zero = at0.score; one = at1.score }) (kept y ps) left.placed; apart = left.apart }));
           others = λ v h.
               let d = or_parts (eqb v y) (eqb v x) h in
-              ap (λ ws. slice_get ws v) vs_is ∙ join_at_other J (set vs y None) x (record { zero = at0.score; one = at1.score }) v (eqb-false v x d.1) ∙ nth_set_other vs y v None (eqb-false v y d.0);
+              ap (λ ws. slice_get ws v) vs_is ∙ join_at_other J (set vs y (Left gone)) x (record { zero = at0.score; one = at1.score }) v (eqb-false v x d.1) ∙ nth_set_other vs y v (Left gone) (eqb-false v y d.0);
           other_pairs = λ a c h. ap (found a c) ps_is ∙ found_kept y ps a c ∙ cond-false (eqb a y || eqb c y) None (found a c ps) h;
           note_is = λ jx. ap note_of n_is ∙ one_means y x at0 at1 ∙ ap (λ f. noted y (by_one x f)) (fun_ext (seconds jx));
           says_is = λ jx.
               ap₂ (contents means b) vs_is ps_is
-              ∙ onto_one_says M means J (set vs y None) x (record { zero = at0.score; one = at1.score }) (λ u. with_one M s y x u (choose M banks y (with_one M s y x u)))
+              ∙ onto_one_says M means J (set vs y (Left gone)) x (record { zero = at0.score; one = at1.score }) (λ u. with_one M s y x u (choose M banks y (with_one M s y x u)))
               (λ rx at_x u.
               exactly (at_two rx u) (cond u at1.score at0.score) (means (at_two rx u)) _ refl (scores jx u)
               (subst (λ z. Together M z (with_one M s y x u (choose M banks y (with_one M s y x u))))
-              (own_is M means b vs ps arranged x rx (sym (nth_set_other vs y x None apart) ∙ at_x) u)
+              (own_is M means b vs ps arranged x rx (sym (nth_set_other vs y x (Left gone) apart) ∙ at_x) u)
               (jx.onto_one y x (choose M banks y (with_one M s y x u)) u partner)))
               b (kept y ps)
-              ∙ ap (onto_one M x (λ u. with_one M s y x u (choose M banks y (with_one M s y x u)))) (leaving vs y r q.0 means b ps);
+              ∙ ap (onto_one M x (λ u. with_one M s y x u (choose M banks y (with_one M s y x u)))) (leaving vs y r gone q.0 means b ps);
         },
       )
     where
@@ -211,32 +212,32 @@ module _ {E S K : Type 0} (M : Model E S) (laws : Laws M) (means : K → S) (J :
 
   -- Set ------------------------------------------------------------------------------------------------------------------------------
 
-  pub set_done : (b b' : K) (vs vs' : List (Var K)) (ps ps' : List (Pair K)) (y : ℕ) (c : Bool) (r : Two K) (n : Removal)
-      → present_at vs y ≡ Some r → b' ≡ J b (at_two r c) → vs' ≡ handed J y c (set vs y None) ps → ps' ≡ kept y ps → n ≡ set_note y c
+  pub set_done : (b b' : K) (vs vs' : List (Var K)) (ps ps' : List (Pair K)) (y : ℕ) (c : Bool) (r gone : Two K) (n : Removal)
+      → present_at vs y ≡ Some r → b' ≡ J b (at_two r c) → vs' ≡ handed J y c (set vs y (Left gone)) ps → ps' ≡ kept y ps → n ≡ set_note y c
       → SetLeft M means b b' vs vs' ps ps' y c (Some n)
-  set_done b b' vs vs' ps ps' y c r n at b_is vs_is ps_is n_is arranged =
+  set_done b b' vs vs' ps ps' y c r gone n at b_is vs_is ps_is n_is arranged =
       let there = present_is vs y r at in
       let s = contents means b vs ps in
       let ls = links y ps in
-      let ws = set vs y None in
+      let ws = set vs y (Left gone) in
       let own_y = own_is M means b vs ps arranged y r there in
       let present = remains_is M means b vs ps arranged y r there in
-      let left = leaving_arranged vs y r there ps arranged in
+      let left = leaving_arranged vs y r gone there ps arranged in
       let vs_all : vs' ≡ hand_all J c ws ls = vs_is ∙ handed_links J c y ps ws in
-      let long : length vs' ≡ length vs = ap length vs_all ∙ hand_all_length J c ls ws ∙ length-set vs y None in
-      let exact_hand : JoinsExact M s → (x : ℕ) (l : Link K) (rx : Two K) → first_link x ls ≡ Some l → slice_get ws x ≡ Some (Some rx) → (u : Bool)
+      let long : length vs' ≡ length vs = ap length vs_all ∙ hand_all_length J c ls ws ∙ length-set vs y (Left gone) in
+      let exact_hand : JoinsExact M s → (x : ℕ) (l : Link K) (rx : Two K) → first_link x ls ≡ Some l → slice_get ws x ≡ Some (Remains rx) → (u : Bool)
       → means (J (at_two rx u) (at_four l.scores c u)) ≡ M.join (means (at_two rx u)) (link_scores means l c u)
       = λ jx x l rx first at_x u.
       let partner = partner_is M means b vs ps arranged y r there x l first in
       let apart = other_is M means b vs ps arranged y r there x partner in
       exactly (at_two rx u) (at_four l.scores c u) (means (at_two rx u)) (link_scores means l c u) refl refl
-      (subst (λ t. Together M t (link_scores means l c u)) (own_is M means b vs ps arranged x rx (sym (nth_set_other vs y x None apart) ∙ at_x) u)
+      (subst (λ t. Together M t (link_scores means l c u)) (own_is M means b vs ps arranged x rx (sym (nth_set_other vs y x (Left gone) apart) ∙ at_x) u)
       (subst (Together M (own M s x u)) (both_is M means b vs ps arranged y r there x l first c u) (jx.onto_partner y x c u partner))) in
       let one_is : JoinsExact M s → (v : ℕ) → var_says means (slice_get vs' v) ≡ cond (eqb v y) None (option_map (onto_scores M (both M s y v c)) (s.one v))
       = λ jx v.
       ap (λ xs. var_says means (slice_get xs v)) vs_all
       ∙ hand_says M laws means J c (length vs) ls ws (distinct vs ps arranged.placed arranged.apart y) (exact_hand jx) v
-      ∙ ap (option_map (onto_scores M (two_score M (option_map (link_scores means) (first_link v ls)) c))) (gone_says vs y r there means v)
+      ∙ ap (option_map (onto_scores M (two_score M (option_map (link_scores means) (first_link v ls)) c))) (gone_says vs y r gone there means v)
       ∙ ap (λ o. option_map (onto_scores M (two_score M o c)) (cond (eqb v y) None (var_says means (slice_get vs v)))) (sym (pair_links means b vs ps (low_first vs ps arranged.placed) y v))
       ∙ through (onto_scores M (both M s y v c)) (eqb v y) (var_says means (slice_get vs v)) in (
         present,
@@ -247,11 +248,11 @@ module _ {E S K : Type 0} (M : Model E S) (laws : Laws M) (means : K → S) (J :
               let d = or_parts (eqb v y) (partners s y v) h in
               ap (λ xs. slice_get xs v) vs_all
               ∙ hand_all_other J c ls ws v (none_if (first_link v ls) (both_ways (is_some (first_link v ls)) (sym (partners_links means b vs ps arranged.placed y v) ∙ d.1)))
-              ∙ nth_set_other vs y v None (eqb-false v y d.0);
+              ∙ nth_set_other vs y v (Left gone) (eqb-false v y d.0);
           other_pairs = λ a e h. ap (found a e) ps_is ∙ found_kept y ps a e ∙ cond-false (eqb a y || eqb e y) None (found a e ps) h;
           note_is = λ _. ap note_of n_is ∙ set_means y c;
           says_is = λ jx.
-              let two_is = leaving vs y r there means b ps in
+              let two_is = leaving vs y r gone there means b ps in
               λ i. record {
                 size = long i;
                 base = (ap means b_is ∙ exactly b (at_two r c) s.base (own M s y c) refl (sym (own_y c)) (jx.onto_base y c present)) i;
@@ -267,11 +268,11 @@ module _ {E S K : Type 0} (M : Model E S) (laws : Laws M) (means : K → S) (J :
 
   -- By two ---------------------------------------------------------------------------------------------------------------------------
 
-  pub two_done : (vs vs' : List (Var K)) (ps ps' : List (Pair K)) (y : ℕ) (x : ByTwo K) (n : Removal) (best : Four (Choice K)) (f : Four K)
+  pub two_done : (vs vs' : List (Var K)) (ps ps' : List (Pair K)) (y : ℕ) (x : ByTwo K) (gone : Two K) (n : Removal) (best : Four (Choice K)) (f : Four K)
       → two_at vs ps y ≡ Some x → best ≡ two_best M means J x.var x.low x.high → f ≡ two_scores best
-      → vs' ≡ set vs y None → ps' ≡ post J x.low.partner x.high.partner f (kept y ps)
+      → vs' ≡ set vs y (Left gone) → ps' ≡ post J x.low.partner x.high.partner f (kept y ps)
       → n ≡ two_note y x.low.partner x.high.partner best → TwoLeft M means vs vs' ps ps' y (Some n)
-  two_done vs vs' ps ps' y by n best f at best_is f_is vs_is ps_is n_is b arranged =
+  two_done vs vs' ps ps' y by gone n best f at best_is f_is vs_is ps_is n_is b arranged =
       let q = two_asked vs ps y by at in
       let s = contents means b vs ps in
       let r = by.var in
@@ -279,7 +280,7 @@ module _ {E S K : Type 0} (M : Model E S) (laws : Laws M) (means : K → S) (J :
       let m = by.high in
       let x = l.partner in
       let z = m.partner in
-      let ws = set vs y None in
+      let ws = set vs y (Left gone) in
       let d = two_distinct (length vs) l m (links y ps) (distinct vs ps arranged.placed arranged.apart y) q.2 in
       let lt : x < z = omega (arith, q.1, d) in
       let first_x : first_link x (links y ps) ≡ Some l = two_first_low l m (links y ps) d q.2 in
@@ -291,7 +292,7 @@ module _ {E S K : Type 0} (M : Model E S) (laws : Laws M) (means : K → S) (J :
       let own_y = own_is M means b vs ps arranged y r q.0 in
       let both_x = both_is M means b vs ps arranged y r q.0 x l first_x in
       let both_z = both_is M means b vs ps arranged y r q.0 z m first_z in
-      let left = leaving_arranged vs y r q.0 ps arranged in
+      let left = leaving_arranged vs y r gone q.0 ps arranged in
       let worth : JoinsExact M s → (u t w : Bool) → means (worth_two J r l m u t w) ≡ with_two M s y x z u t w
       = λ jx u t w.
       exactly _ _ _ _ (exactly _ _ _ _ (sym (own_y w)) (sym (both_x w u)) (jx.with_pair y x w u px)) (sym (both_z w t)) (jx.with_second y x z w u t px pz lt) in
@@ -321,12 +322,12 @@ module _ {E S K : Type 0} (M : Model E S) (laws : Laws M) (means : K → S) (J :
           arranged = subst (λ xs. Arranged xs ps') (sym vs_is) (subst (Arranged ws) (sym ps_is)
               (record {
                 placed = post_placed J x z f ws (kept y ps) lt
-                    (gone_present vs y r q.0 x apart_x (link_present vs y ps arranged.placed x l first_x))
-                    (gone_present vs y r q.0 z apart_z (link_present vs y ps arranged.placed z m first_z))
+                    (gone_present vs y r gone q.0 x apart_x (link_present vs y ps arranged.placed x l first_x))
+                    (gone_present vs y r gone q.0 z apart_z (link_present vs y ps arranged.placed z m first_z))
                     left.placed;
                 apart = post_apart J x z f (kept y ps) left.apart;
               }));
-          others = λ v h. ap (λ xs. slice_get xs v) vs_is ∙ nth_set_other vs y v None (eqb-false v y h);
+          others = λ v h. ap (λ xs. slice_get xs v) vs_is ∙ nth_set_other vs y v (Left gone) (eqb-false v y h);
           other_pairs = λ a e h.
               let k = or_parts (eqb a y || eqb e y) (eqb a x && eqb e z) h in
               ap (found a e) ps_is
@@ -342,7 +343,7 @@ module _ {E S K : Type 0} (M : Model E S) (laws : Laws M) (means : K → S) (J :
               (ap (λ o. two_score M (option_map (pair_scores means) o) u t) (sym kept_xz ∙ p_is))
               (jx.onto_two y x z (choose M banks y (with_two M s y x z u t)) u t px pz lt)))
               b ws
-              ∙ ap (onto_two M x z g) (leaving vs y r q.0 means b ps);
+              ∙ ap (onto_two M x z g) (leaving vs y r gone q.0 means b ps);
         },
       )
     where

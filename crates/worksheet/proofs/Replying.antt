@@ -19,7 +19,9 @@ use Rattle.score.specs.declared.values.Two.{Two}
 use Rattle.sheets.specs.Totals.{best_of_two, low_bests, best_pair, with_vars, with_pairs, with_arm, arms}
 use Rattle.worksheet.specs.Bounds.{largest_score, best_four, arm, star_score}
 use Rattle.sheets.specs.Changed.{chosen, choose_held}
-use Rattle.sheets.specs.Variables.{Var, joined_var}
+use Rattle.sheets.specs.declared.variables.Var.{Var}
+use Rattle.sheets.specs.declared.variables.Var.TheVariants.{Remains, Left}
+use Rattle.sheets.specs.Variables.{joined_var}
 use Rattle.score.specs.Values.{at_two, at_four}
 use Rattle.records.specs.Pairs.{is_pair}
 use Rattle.worksheet.specs.Records.{var_scores, var_says, pair_scores, found, contents, Present, Placed, Arranged}
@@ -79,7 +81,7 @@ module _ {E S K : Type 0} (M : Model E S) (means : K → S) (b : K) (vs : List (
   abbrev pub pair_count : ℕ → ℕ → ℕ
   pair_count a z = two_score numbers (few.counts.two a z) tt tt
 
-  pub var_of : (v : ℕ) (r : Two K) → slice_get vs v ≡ Some (Some r) → (u : Bool) → Of M (var_count v) (means (at_two r u))
+  pub var_of : (v : ℕ) (r : Two K) → slice_get vs v ≡ Some (Remains r) → (u : Bool) → Of M (var_count v) (means (at_two r u))
   var_of v r there =
       one_some M (few.counts.one v) (var_scores means r)
       (subst (OneOf M (few.counts.one v)) (ap (var_says means) there) (few.counted.one_of v))
@@ -97,8 +99,8 @@ module _ {E S K : Type 0} (M : Model E S) (means : K → S) (b : K) (vs : List (
 
       go : (o : Option (Var K)) → slice_get vs v ≡ o → of_var 0 (λ _. var_count v) o ≡ var_count v
       go None e = none (ap (var_says means) e)
-      go (Some None) e = none (ap (var_says means) e)
-      go (Some (Some r)) e = refl
+      go (Some (Remains r)) e = refl
+      go (Some (Left r)) e = none (ap (var_says means) e)
 
   pub pair_weight : (a z : ℕ) → of_pair 0 (λ p. pair_count p.low p.high) (found a z ps) ≡ pair_count a z
   pair_weight a z = go (found a z ps) refl
@@ -125,8 +127,8 @@ over_least (suc n) f g h = omega (arith, over_least n f g h, h n)
 
 of_var_most : {K : Type 0} (k : ℕ) (o : Option (Var K)) → of_var 0 (λ _. k) o ≤ k
 of_var_most k None = omega arith
-of_var_most k (Some None) = omega arith
-of_var_most k (Some (Some r)) = omega arith
+of_var_most k (Some (Remains r)) = omega arith
+of_var_most k (Some (Left r)) = omega arith
 
 map_row : {K T U : Type 0} (f : T → U) (g : Pair K → T) (v : ℕ) (ps : List (Pair K)) → map f (row g v ps) ≡ row (λ p. f (g p)) v ps
 map_row f g v [] = refl
@@ -153,8 +155,8 @@ module _ {E S K : Type 0} (M : Model E S) (laws : Laws M) (means : K → S) (J :
 
   pub with_vars_run : (vs : List (Var K)) (k : K) → with_vars M means J k vs ≡ run J k (bests vs)
   with_vars_run [] k = refl
-  with_vars_run (None ∷ rs) k = with_vars_run rs k
-  with_vars_run (Some r ∷ rs) k = with_vars_run rs (J k (best_of_two M means r))
+  with_vars_run (Remains r ∷ rs) k = with_vars_run rs (J k (best_of_two M means r))
+  with_vars_run (Left r ∷ rs) k = with_vars_run rs k
 
   with_pairs_run : (ps : List (Pair K)) (k : K) → with_pairs M means J k ps ≡ run J k (map (best_pair M means) ps)
   with_pairs_run [] k = refl
@@ -162,8 +164,8 @@ module _ {E S K : Type 0} (M : Model E S) (laws : Laws M) (means : K → S) (J :
 
   pub bests_means : (vs : List (Var K)) → map means (bests vs) ≡ of_vars (λ _ r. means (best_of_two M means r)) vs
   bests_means [] = refl
-  bests_means (None ∷ rs) = bests_means rs
-  bests_means (Some r ∷ rs) = ap (λ xs. means (best_of_two M means r) ∷ xs) (bests_means rs)
+  bests_means (Remains r ∷ rs) = ap (λ xs. means (best_of_two M means r) ∷ xs) (bests_means rs)
+  bests_means (Left r ∷ rs) = bests_means rs
 
   map_map : (ps : List (Pair K)) → map means (map (best_pair M means) ps) ≡ map (λ p. means (best_pair M means p)) ps
   map_map [] = refl
@@ -175,8 +177,8 @@ module _ {E S K : Type 0} (M : Model E S) (laws : Laws M) (means : K → S) (J :
     where
       go : (o : Option (Var K)) → of_var M.neutral (λ r. means (best_of_two M means r)) o ≡ better M (one_score M (var_says means o) false) (one_score M (var_says means o) true)
       go None = sym (better_neutral M means)
-      go (Some None) = sym (better_neutral M means)
-      go (Some (Some r)) = chosen_means M means r.zero r.one
+      go (Some (Remains r)) = chosen_means M means r.zero r.one
+      go (Some (Left r)) = sym (better_neutral M means)
 
   best_pair_is : (o : Option (Pair K)) → of_pair M.neutral (λ p. means (best_pair M means p)) o ≡ best_four M (two_score M (option_map (pair_scores means) o))
   best_pair_is None = sym (ap₂ (better M) (better_neutral M means) (better_neutral M means) ∙ better_neutral M means)
@@ -234,36 +236,52 @@ module _ {E S K : Type 0} (M : Model E S) (laws : Laws M) (means : K → S) (J :
   abbrev low_best : Bool → Pair K → K
   low_best u p = (chosen M means (at_four p.scores u false) (at_four p.scores u true)).score
 
-  abbrev arm_var : Two K → ℕ → List (Pair K) → Two K
-  arm_var r v ps = record { zero = run J r.zero (row (low_best false) v ps); one = run J r.one (row (low_best true) v ps) }
+  abbrev arm_two : Two K → ℕ → List (Pair K) → Two K
+  arm_two r v ps = record { zero = run J r.zero (row (low_best false) v ps); one = run J r.one (row (low_best true) v ps) }
 
-  arms_at : (ps : List (Pair K)) (vs : List (Var K)) (v : ℕ) (r : Var K) → slice_get vs v ≡ Some r → slice_get (arms M means J vs ps) v ≡ Some (option_map (λ s. arm_var s v ps) r)
+  abbrev arm_var : Var K → ℕ → List (Pair K) → Var K
+  arm_var (Remains r) v ps = Remains (arm_two r v ps)
+  arm_var (Left r) v ps = Left (arm_two r v ps)
+
+  arms_at : (ps : List (Pair K)) (vs : List (Var K)) (v : ℕ) (r : Var K) → slice_get vs v ≡ Some r → slice_get (arms M means J vs ps) v ≡ Some (arm_var r v ps)
   arms_at [] vs v r e = e ∙ ap Some (same r)
     where
-      same : (r : Var K) → r ≡ option_map (λ s. arm_var s v []) r
-      same None = refl
-      same (Some s) = refl
+      same : (r : Var K) → r ≡ arm_var r v []
+      same (Remains s) = refl
+      same (Left s) = refl
   arms_at (p ∷ ps) vs v r e =
       ⊎_elim
       (λ (t : eqb v p.low ≡ true).
       let is = eqb-true v p.low t in
       arms_at ps (with_arm M means J vs p) v (joined_var J r (low_bests M means p))
       (ap (slice_get (with_arm M means J vs p)) is ∙ join_at_same J vs p.low (low_bests M means p) r (ap (slice_get vs) (sym is) ∙ e))
-      ∙ joined r ∙ sym (ap (λ b. Some (option_map (chained b) r)) t))
+      ∙ ap Some (joined r ∙ sym (ap (chained r) t) ∙ whole r))
       (λ (t : eqb v p.low ≡ false).
       arms_at ps (with_arm M means J vs p) v r (join_at_other J vs p.low (low_bests M means p) v (eqb-false v p.low t) ∙ e)
-      ∙ sym (ap (λ b. Some (option_map (chained b) r)) t))
+      ∙ ap Some (passed r ∙ sym (ap (chained r) t) ∙ whole r))
       (cases_Bool (eqb v p.low))
     where
-      chained : Bool → Two K → Two K
-      chained b s = record {
+      chained_two : Two K → Bool → Two K
+      chained_two s b = record {
         zero = run J s.zero (cond b (low_best false p ∷ row (low_best false) v ps) (row (low_best false) v ps));
         one = run J s.one (cond b (low_best true p ∷ row (low_best true) v ps) (row (low_best true) v ps));
       }
 
-      joined : (r : Var K) → Some (option_map (λ s. arm_var s v ps) (joined_var J r (low_bests M means p))) ≡ Some (option_map (chained true) r)
-      joined None = refl
-      joined (Some s) = refl
+      chained : Var K → Bool → Var K
+      chained (Remains s) b = Remains (chained_two s b)
+      chained (Left s) b = Left (chained_two s b)
+
+      joined : (r : Var K) → arm_var (joined_var J r (low_bests M means p)) v ps ≡ chained r true
+      joined (Remains s) = refl
+      joined (Left s) = refl
+
+      passed : (r : Var K) → arm_var r v ps ≡ chained r false
+      passed (Remains s) = refl
+      passed (Left s) = refl
+
+      whole : (r : Var K) → chained r (eqb v p.low) ≡ arm_var r v (p ∷ ps)
+      whole (Remains s) = refl
+      whole (Left s) = refl
 
   arms_length : (ps : List (Pair K)) (vs : List (Var K)) → length (arms M means J vs ps) ≡ length vs
   arms_length [] vs = refl
@@ -306,9 +324,9 @@ module _ {E S K : Type 0} (M : Model E S) (laws : Laws M) (means : K → S) (J :
     low_best_is u (Some p) = chosen_means M means (at_four p.scores u false) (at_four p.scores u true)
 
     -- one variable and its pairs
-    module _ (v : ℕ) (r : Two K) (there : slice_get vs v ≡ Some (Some r)) where
+    module _ (v : ℕ) (r : Two K) (there : slice_get vs v ≡ Some (Remains r)) where
       arm_room : arm_count v ≤ exact_entries
-      arm_room = omega (arith, over_one (length vs) v arm_count (slice_get_within vs v (Some r) there), counts_sum, all_entries M means b vs ps arranged few)
+      arm_room = omega (arith, over_one (length vs) v arm_count (slice_get_within vs v (Remains r) there), counts_sum, all_entries M means b vs ps arranged few)
 
       arm_joined : (u : Bool) → means (run J (at_two r u) (row (low_best u) v ps)) ≡ M.join (means (at_two r u)) (joined M (row (entry u) v ps))
       arm_joined u =
@@ -354,22 +372,22 @@ module _ {E S K : Type 0} (M : Model E S) (laws : Laws M) (means : K → S) (J :
         go None e =
             ap (of_var M.neutral (λ r. means (best_of_two M means r))) (slice_get_past (arms M means J vs ps) v (omega (arith, arms_length ps vs, nth_none vs v e)))
             ∙ nothing (ap (var_says means) e)
-        go (Some None) e = ap (of_var M.neutral (λ r. means (best_of_two M means r))) (arms_at ps vs v None e) ∙ nothing (ap (var_says means) e)
-        go (Some (Some r)) e =
-            ap (of_var M.neutral (λ r. means (best_of_two M means r))) (arms_at ps vs v (Some r) e)
+        go (Some (Left r)) e = ap (of_var M.neutral (λ r. means (best_of_two M means r))) (arms_at ps vs v (Left r) e) ∙ nothing (ap (var_says means) e)
+        go (Some (Remains r)) e =
+            ap (of_var M.neutral (λ r. means (best_of_two M means r))) (arms_at ps vs v (Remains r) e)
             ∙ chosen_means M means _ _ ∙ ap₂ (better M) (arm_is v r e false) (arm_is v r e true)
 
-    best_of : (v : ℕ) (a : Two K) → slice_get (arms M means J vs ps) v ≡ Some (Some a) → Of M (arm_count v) (means (best_of_two M means a))
+    best_of : (v : ℕ) (a : Two K) → slice_get (arms M means J vs ps) v ≡ Some (Remains a) → Of M (arm_count v) (means (best_of_two M means a))
     best_of v a there = go (slice_get vs v) refl
       where
         go : (o : Option (Var K)) → slice_get vs v ≡ o → Of M (arm_count v) (means (best_of_two M means a))
         go None e =
-            let none : None ≡ Some (Some a) = sym (slice_get_past (arms M means J vs ps) v (omega (arith, arms_length ps vs, nth_none vs v e))) ∙ there in
+            let none : None ≡ Some (Remains a) = sym (slice_get_past (arms M means J vs ps) v (omega (arith, arms_length ps vs, nth_none vs v e))) ∙ there in
             absurd cc
-        go (Some None) e = let none : Some None ≡ Some (Some a) = sym (arms_at ps vs v None e) ∙ there in absurd cc
-        go (Some (Some r)) e =
-            let same : Some (Some (arm_var r v ps)) ≡ Some (Some a) = sym (arms_at ps vs v (Some r) e) ∙ there in
-            let is : arm_var r v ps ≡ a = cc in
+        go (Some (Left r)) e = let none : Some (Left (arm_two r v ps)) ≡ Some (Remains a) = sym (arms_at ps vs v (Left r) e) ∙ there in absurd cc
+        go (Some (Remains r)) e =
+            let same : Some (Remains (arm_two r v ps)) ≡ Some (Remains a) = sym (arms_at ps vs v (Remains r) e) ∙ there in
+            let is : arm_two r v ps ≡ a = cc in
             subst (λ q. Of M (arm_count v) (means (best_of_two M means q))) is
             (chosen_of M means (arm_count v) _ _ (arm_of v r e false) (arm_of v r e true))
 

@@ -10,7 +10,8 @@ use Rattle.steps.specs.Sheet.{over, numbers}
 use Rattle.steps.proofs.Joins.{unit_right, over_same, over_neutral, over_join_two, over_two_neutral, over_join, over_only, only, total, total_pair}
 use Rattle.records.specs.declared.pairs.Pair.{Pair}
 use Rattle.score.specs.declared.values.Two.{Two}
-use Rattle.sheets.specs.Variables.{Var}
+use Rattle.sheets.specs.declared.variables.Var.{Var}
+use Rattle.sheets.specs.declared.variables.Var.TheVariants.{Remains, Left}
 use Rattle.records.specs.Pairs.{is_pair}
 use Rattle.worksheet.specs.Records.{found, Placed, Apart}
 use Rattle.std.proofs.lemmas.Option.{slice_get_within}
@@ -66,13 +67,13 @@ module _ {K T : Type 0} where
   -- f of each variable that remains and its number
   abbrev pub of_vars : (ℕ → Two K → T) → List (Var K) → List T
   of_vars f [] = []
-  of_vars f (None ∷ rs) = of_vars (λ v. f (suc v)) rs
-  of_vars f (Some r ∷ rs) = f 0 r ∷ of_vars (λ v. f (suc v)) rs
+  of_vars f (Remains r ∷ rs) = f 0 r ∷ of_vars (λ v. f (suc v)) rs
+  of_vars f (Left r ∷ rs) = of_vars (λ v. f (suc v)) rs
 
   abbrev pub of_var : T → (Two K → T) → Option (Var K) → T
   of_var n f None = n
-  of_var n f (Some None) = n
-  of_var n f (Some (Some r)) = f r
+  of_var n f (Some (Remains r)) = f r
+  of_var n f (Some (Left r)) = n
 
 module _ {E S : Type 0} (M : Model E S) (laws : Laws M) where
   over_front : (n : ℕ) (f : ℕ → S) → over M (suc n) f ≡ M.join (f 0) (over M n (λ v. f (suc v)))
@@ -82,17 +83,17 @@ module _ {E S : Type 0} (M : Model E S) (laws : Laws M) where
 module _ {K E S : Type 0} (M : Model E S) (laws : Laws M) where
   pub vars_joined : (vs : List (Var K)) (f : ℕ → Two K → S) → joined M (of_vars f vs) ≡ over M (length vs) (λ v. of_var M.neutral (f v) (slice_get vs v))
   vars_joined [] f = refl
-  vars_joined (None ∷ rs) f =
-      vars_joined rs (λ v. f (suc v)) ∙ sym (over_front M laws (length rs) (λ v. of_var M.neutral (f v) (slice_get (None ∷ rs) v)) ∙ laws.unit _)
-  vars_joined (Some r ∷ rs) f =
+  vars_joined (Remains r ∷ rs) f =
       ap (M.join (f 0 r)) (vars_joined rs (λ v. f (suc v)))
-      ∙ sym (over_front M laws (length rs) (λ v. of_var M.neutral (f v) (slice_get (Some r ∷ rs) v)))
+      ∙ sym (over_front M laws (length rs) (λ v. of_var M.neutral (f v) (slice_get (Remains r ∷ rs) v)))
+  vars_joined (Left r ∷ rs) f =
+      vars_joined rs (λ v. f (suc v)) ∙ sym (over_front M laws (length rs) (λ v. of_var M.neutral (f v) (slice_get (Left r ∷ rs) v)) ∙ laws.unit _)
 
-  pub vars_of : (vs : List (Var K)) (k : ℕ → ℕ) (f : ℕ → Two K → S) → ((v : ℕ) (r : Two K) → slice_get vs v ≡ Some (Some r) → Of M (k v) (f v r))
+  pub vars_of : (vs : List (Var K)) (k : ℕ → ℕ) (f : ℕ → Two K → S) → ((v : ℕ) (r : Two K) → slice_get vs v ≡ Some (Remains r) → Of M (k v) (f v r))
       → Ofs M (of_vars (λ v _. k v) vs) (of_vars f vs)
   vars_of [] k f h = tt
-  vars_of (None ∷ rs) k f h = vars_of rs (λ v. k (suc v)) (λ v. f (suc v)) (λ v. h (suc v))
-  vars_of (Some r ∷ rs) k f h = (h 0 r refl, vars_of rs (λ v. k (suc v)) (λ v. f (suc v)) (λ v. h (suc v)))
+  vars_of (Remains r ∷ rs) k f h = (h 0 r refl, vars_of rs (λ v. k (suc v)) (λ v. f (suc v)) (λ v. h (suc v)))
+  vars_of (Left r ∷ rs) k f h = vars_of rs (λ v. k (suc v)) (λ v. f (suc v)) (λ v. h (suc v))
 
 -- Over the pairs -----------------------------------------------------------------------------------------------------------------------
 
@@ -140,7 +141,7 @@ module _ {K E S : Type 0} (M : Model E S) (laws : Laws M) (g : Pair K → S) whe
       let only_p : ℕ → ℕ → S = λ x z. cond (eqb x p.low && eqb z p.high) (g p) M.neutral in
       let rest_p : ℕ → ℕ → S = λ x z. of_pair M.neutral g (found x z ps) in
       ap₂ M.join
-      (sym (single n only_p ∙ total_pair laws n p.low p.high (g p) (slice_get_within vs p.low (Some h.0.low_present.0) h.0.low_present.1) (slice_get_within vs p.high (Some h.0.high_present.0) h.0.high_present.1)))
+      (sym (single n only_p ∙ total_pair laws n p.low p.high (g p) (slice_get_within vs p.low (Remains h.0.low_present.0) h.0.low_present.1) (slice_get_within vs p.high (Remains h.0.high_present.0) h.0.high_present.1)))
       (pairs_joined vs ps h.1 a.1)
       ∙ sym (over_join_two laws n only_p rest_p)
       ∙ sym (over_same laws n _ _ (λ x. over_same laws n _ _ (λ z. parts x z)))
@@ -183,7 +184,7 @@ module _ {K E S : Type 0} (M : Model E S) (laws : Laws M) (g : Pair K → S) whe
       go : (t : Bool) → eqb v p.low ≡ t → joined M (row g v ps) ≡ over M (length vs) (λ c. of_pair M.neutral g (found v c ps))
           → joined M (cond t (g p ∷ row g v ps) (row g v ps)) ≡ over M (length vs) (λ c. of_pair M.neutral g (cond (eqb v p.low && eqb c p.high) (Some p) (found v c ps)))
       go true e rest =
-          ap₂ M.join (sym (over_only laws (length vs) p.high (g p) (slice_get_within vs p.high (Some h.0.high_present.0) h.0.high_present.1))) rest
+          ap₂ M.join (sym (over_only laws (length vs) p.high (g p) (slice_get_within vs p.high (Remains h.0.high_present.0) h.0.high_present.1))) rest
           ∙ sym (over_join laws (length vs) (only M p.high (g p)) (λ c. of_pair M.neutral g (found v c ps)))
           ∙ sym (over_same laws (length vs) _ _ (λ c. ap (λ t. of_pair M.neutral g (cond (t && eqb c p.high) (Some p) (found v c ps))) e ∙ part c (eqb c p.high) refl))
         where

@@ -5,7 +5,7 @@ use Rattle.std.specs.List.{AllByRecursion, slice_get}
 use Rattle.std.proofs.lemmas.Bool.{both_ways, cases_Bool, cond-false, and_parts, eqb-true}
 use Rattle.steps.proofs.Sheets.{some_mapped}
 use Rattle.records.specs.declared.pairs.Pair.{Pair}
-use Rattle.sheets.specs.Variables.{Var}
+use Rattle.sheets.specs.declared.variables.Var.{Var}
 use Rattle.worksheet.specs.Claims.{ContentsSound}
 use Rattle.records.specs.Pairs.{is_pair}
 use Rattle.worksheet.specs.Records.{found, var_says, pair_scores, Present, Placed}

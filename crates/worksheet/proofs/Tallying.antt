@@ -3,7 +3,7 @@ use Rattle.std.proofs.Common.{◌≡◌, ℕ, suc, ◌+◌, ◌%◌, ◌^◌, �
 use Rattle.std.specs.List.{AllByRecursion, slice_get}
 use Rattle.steps.specs.Sheet.{degree}
 use Rattle.records.specs.declared.pairs.Pair.{Pair}
-use Rattle.sheets.specs.Variables.{Var}
+use Rattle.sheets.specs.declared.variables.Var.{Var}
 use Rattle.partners.specs.Tallied.{one_more, both_more, tallied}
 use Rattle.partners.specs.Links.{front, links}
 use Rattle.worksheet.specs.Records.{contents, Arranged}

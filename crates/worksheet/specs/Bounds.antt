@@ -8,7 +8,7 @@ use Rattle.steps.specs.Counts.{Few}
 use Rattle.steps.specs.Sheet.{Sheet, over, two_score, value}
 use Rattle.steps.specs.Steps.{holding, dropped}
 use Rattle.records.specs.declared.pairs.Pair.{Pair}
-use Rattle.sheets.specs.Variables.{Var}
+use Rattle.sheets.specs.declared.variables.Var.{Var}
 use Rattle.worksheet.specs.Records.{contents, Arranged}
 
 -- On records of few enough entries, and with enough working memory, the reply is the rule's.

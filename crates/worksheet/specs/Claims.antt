@@ -3,7 +3,7 @@ use Rattle.std.specs.Prelude.{◌≡◌, List}
 use Rattle.steps.specs.Change.{Among}
 use Rattle.steps.specs.Sheet.{Sound}
 use Rattle.records.specs.declared.pairs.Pair.{Pair}
-use Rattle.sheets.specs.Variables.{Var}
+use Rattle.sheets.specs.declared.variables.Var.{Var}
 use Rattle.worksheet.specs.Records.{contents, Arranged}
 
 -- The contents of records in order are sound: a pair is between two variables that remain, the lower first.

@@ -14,7 +14,8 @@ use Rattle.score.specs.declared.values.Two.{Two}
 use Rattle.score.specs.Values.{at_two}
 use Rattle.sheets.specs.Changed.{chosen, worth_one, two_best, two_scores, join_at, handed, kept, post}
 use Rattle.partners.specs.Links.{present_at, alone_at, one_at, two_at}
-use Rattle.sheets.specs.Variables.{Var}
+use Rattle.sheets.specs.declared.variables.Var.{Var}
+use Rattle.sheets.specs.declared.variables.Var.TheVariants.{Left}
 use Rattle.worksheet.specs.Noting.{alone_note, one_note, two_note, set_note}
 
 module _ {E S K : Type 0} (M : Model E S) (means : K → S) (J : K → K → K) where
@@ -24,14 +25,14 @@ module _ {E S K : Type 0} (M : Model E S) (means : K → S) (J : K → K → K) 
 
   pub record AloneGone (b b' : K) (vs vs' : List (Var K)) (y : ℕ) (n : Option Removal) (r : Two K) : Type 0 where
     pub base_is : b' ≡ J b (chosen M means r.zero r.one).score
-    pub vars_are : vs' ≡ slice_set vs y None
+    pub vars_are : vs' ≡ slice_set vs y (Left r)
     pub note_is : n ≡ Some (alone_note y (chosen M means r.zero r.one))
 
   abbrev pub AloneDoes : K → K → List (Var K) → List (Var K) → List (Pair K) → ℕ → Option Removal → Type 0
   AloneDoes b b' vs vs' ps y n = MatchOption (alone_at vs ps y) (n ≡ None) (AloneGone b b' vs vs' y n)
 
   pub record OneGone (vs vs' : List (Var K)) (ps ps' : List (Pair K)) (n' long y : ℕ) (n : Option Removal) (by : ByOne K) : Type 0 where
-    pub vars_are : vs' ≡ join_at J (slice_set vs y None) by.link.partner (record { zero = (best_one by.var by.link false).score; one = (best_one by.var by.link true).score })
+    pub vars_are : vs' ≡ join_at J (slice_set vs y (Left by.var)) by.link.partner (record { zero = (best_one by.var by.link false).score; one = (best_one by.var by.link true).score })
     pub pairs_are : ps' ≡ kept y ps
     pub within : n' ≤ long
     pub note_is : n ≡ Some (one_note y by.link.partner (best_one by.var by.link false) (best_one by.var by.link true))
@@ -40,7 +41,7 @@ module _ {E S K : Type 0} (M : Model E S) (means : K → S) (J : K → K → K) 
   OneDoes vs vs' ps ps' n' long y n = MatchOption (one_at vs ps y) (n ≡ None) (OneGone vs vs' ps ps' n' long y n)
 
   pub record TwoGone (vs vs' : List (Var K)) (ps ps' : List (Pair K)) (n' long y : ℕ) (n : Option Removal) (by : ByTwo K) : Type 0 where
-    pub vars_are : vs' ≡ slice_set vs y None
+    pub vars_are : vs' ≡ slice_set vs y (Left by.var)
     pub pairs_are : ps' ≡ post J by.low.partner by.high.partner (two_scores (two_best M means J by.var by.low by.high)) (kept y ps)
     pub within : n' ≤ long
     pub note_is : n ≡ Some (two_note y by.low.partner by.high.partner (two_best M means J by.var by.low by.high))
@@ -51,7 +52,7 @@ module _ {E S K : Type 0} (M : Model E S) (means : K → S) (J : K → K → K) 
 module _ {K : Type 0} (J : K → K → K) where
   pub record SetGone (b b' : K) (vs vs' : List (Var K)) (ps ps' : List (Pair K)) (n' long y : ℕ) (c : Bool) (n : Option Removal) (r : Two K) : Type 0 where
     pub base_is : b' ≡ J b (at_two r c)
-    pub vars_are : vs' ≡ handed J y c (slice_set vs y None) ps
+    pub vars_are : vs' ≡ handed J y c (slice_set vs y (Left r)) ps
     pub pairs_are : ps' ≡ kept y ps
     pub within : n' ≤ long
     pub note_is : n ≡ Some (set_note y c)

@@ -11,7 +11,7 @@ use Rattle.steps.specs.Start.{banks}
 use Rattle.steps.specs.Steps.{Note, noted, alone, by_one, by_two, set_to}
 use Rattle.notes.specs.declared.removal.Removal.{Removal}
 use Rattle.records.specs.declared.pairs.Pair.{Pair}
-use Rattle.sheets.specs.Variables.{Var}
+use Rattle.sheets.specs.declared.variables.Var.{Var}
 use Rattle.notes.specs.Removals.{note_of}
 use Rattle.worksheet.specs.Records.{found, contents, Arranged}
 

@@ -9,7 +9,8 @@ use Rattle.score.specs.Values.{at_two, at_four}
 use Rattle.records.specs.declared.pairs.Link.{Link}
 use Rattle.records.specs.declared.pairs.Pair.{Pair}
 use Rattle.records.specs.Pairs.{is_pair}
-use Rattle.sheets.specs.Variables.{Var}
+use Rattle.sheets.specs.declared.variables.Var.{Var}
+use Rattle.sheets.specs.declared.variables.Var.TheVariants.{Remains, Left}
 
 -- the first record of the pair of a and b
 abbrev pub found : {K : Type 0} → ℕ → ℕ → List (Pair K) → Option (Pair K)
@@ -30,10 +31,11 @@ module _ {K S : Type 0} (means : K → S) where
   abbrev pub link_scores : Link K → Bool → Bool → S
   link_scores l = four_scores l.scores
 
-  -- a variable that does not remain says nothing
+  -- a variable that has left says nothing
   abbrev pub var_says : Option (Var K) → Option (Bool → S)
   var_says None = None
-  var_says (Some r) = option_map var_scores r
+  var_says (Some (Remains r)) = Some (var_scores r)
+  var_says (Some (Left r)) = None
 
   abbrev pub contents : K → List (Var K) → List (Pair K) → Sheet Bool S
   contents base vs ps = record {
@@ -46,7 +48,7 @@ module _ {K S : Type 0} (means : K → S) where
 -- The order that is kept among the records ---------------------------------------------------------------------------------------------
 
 abbrev pub Present : {K : Type 0} → List (Var K) → ℕ → Type 0
-Present {K} vs v = (r : Two K) × (slice_get vs v ≡ Some (Some r))
+Present {K} vs v = (r : Two K) × (slice_get vs v ≡ Some (Remains r))
 
 pub record Placed {K : Type 0} (vs : List (Var K)) (p : Pair K) : Type 0 where
   pub lower_first : p.low < p.high

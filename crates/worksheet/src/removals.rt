@@ -33,7 +33,7 @@ pub fn remove_alone<K: Kind>(
     let var = alone_at(vars, pairs, y)?;
     let best = better(var);
     *base = base.join(best.score);
-    leave(vars, y);
+    leave(vars, y, var);
     Some(Removal {
         variable: y,
         way: Way::Alone {
@@ -60,7 +60,7 @@ pub fn remove_by_one<K: Kind>(
     let ByOne { var, link } = one_at(vars, first(pairs, before), y)?;
     let at0 = best_with_one(var, link, false);
     let at1 = best_with_one(var, link, true);
-    leave(vars, y);
+    leave(vars, y, var);
     let scores = Two {
         zero: at0.score,
         one: at1.score,
@@ -93,7 +93,7 @@ pub fn remove_by_two<K: Kind>(
     let before = *used;
     let ByTwo { var, low, high } = two_at(vars, first(pairs, before), y)?;
     let best = best_with_two(var, low, high);
-    leave(vars, y);
+    leave(vars, y, var);
     let rest = drop_pairs(pairs, before, y);
     *used = post_pair(pairs, rest, low.partner, high.partner, scores_of(best));
     Some(Removal {
@@ -126,7 +126,7 @@ pub fn set_variable<K: Kind>(
     let before = *used;
     let var = present_at(vars, y)?;
     *base = base.join(var.at(value));
-    leave(vars, y);
+    leave(vars, y, var);
     hand_over(vars, first(pairs, before), y, value);
     *used = drop_pairs(pairs, before, y);
     Some(Removal {

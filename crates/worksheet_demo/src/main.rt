@@ -46,7 +46,7 @@ impl Bound<Worst> for BaseAlone {
 }
 
 fn var<K: Kind>(zero: K, one: K) -> Var<K> {
-    Some(Two { zero, one })
+    Var::Remains(Two { zero, one })
 }
 
 // Two scores for the values that agree and for those that differ.
@@ -204,11 +204,13 @@ fn remove_all<K: Kind + Display>(
 
 fn work<K: Kind + Display>(
     rt: HostRuntime,
+    name: &str,
     vars: &mut [Var<K>],
     pairs: &mut [Pair<K>],
     best: K,
     spare: &mut [Var<K>],
 ) -> anyhow::Result<()> {
+    println!(rt; "{name}")?;
     show_partners(rt, pairs)?;
     ask_all(rt, vars, pairs, best, spare)?;
     remove_all(rt, vars, pairs)
@@ -240,29 +242,23 @@ fn work_splits(rt: HostRuntime) -> anyhow::Result<()> {
     show_top(rt, &splits)
 }
 
-// Four variables in a ring with one diagonal, and two scores.
-fn work_ring<K: Kind + Display>(
-    rt: HostRuntime,
-    name: &str,
-    low: K,
-    high: K,
-    best: K,
-) -> anyhow::Result<()> {
-    println!(rt; "{name}")?;
-    let heap = rt.alloc();
-    let mut vars = Vec::new(heap);
-    vars.push(var(high, low))?;
-    vars.push(var(low, high))?;
-    vars.push(var(low, low))?;
-    vars.push(var(high, low))?;
-    let mut pairs = Vec::new(heap);
-    pairs.push(pair(0, 1, low, high))?;
-    pairs.push(pair(1, 2, low, high))?;
-    pairs.push(pair(2, 3, low, high))?;
-    pairs.push(both_at_one(0, 3, low, high))?;
-    pairs.push(pair(1, 3, low, high))?;
-    let mut spare = vars.clone()?;
-    work(rt, &mut vars, &mut pairs, best, &mut spare)
+// Four variables in a ring with one diagonal, and two scores. The records lie in arrays, so that no heap is needed; a macro makes
+// them, since the check covers no such local of a type parameter.
+macro_rules! work_ring {
+    ($rt:expr, $name:expr, $low:expr, $high:expr, $best:expr) => {{
+        let low = $low;
+        let high = $high;
+        let mut vars = [var(high, low), var(low, high), var(low, low), var(high, low)];
+        let mut pairs = [
+            pair(0, 1, low, high),
+            pair(1, 2, low, high),
+            pair(2, 3, low, high),
+            both_at_one(0, 3, low, high),
+            pair(1, 3, low, high),
+        ];
+        let mut spare = vars;
+        work($rt, $name, &mut vars, &mut pairs, $best, &mut spare)
+    }};
 }
 
 // Asks the bound for worst margin alone about one variable.
@@ -284,22 +280,22 @@ fn over<K>(weight: i32, second: K) -> Tiered<K> {
 fn main(rt: HostRuntime) -> anyhow::Result<()> {
     let total = |hits: u32| held::<Total>(Access { hits, cycles: 1 });
     let worst = |margin: i32| held::<Worst>(Slack { margin });
-    work_ring(rt, "total", total(0), total(3), total(21))?;
-    work_ring(rt, "worst margin", worst(4), worst(7), worst(4))?;
+    work_ring!(rt, "total", total(0), total(3), total(21))?;
+    work_ring!(rt, "worst margin", worst(4), worst(7), worst(4))?;
     work_base_alone(rt, worst(3), worst(4), worst(7))?;
-    work_ring(
+    work_ring!(
         rt,
         "tiered over total",
         over(0, total(5)),
         over(1, total(0)),
-        over(8, total(0)),
+        over(8, total(0))
     )?;
-    work_ring(
+    work_ring!(
         rt,
         "tiered over worst margin",
         over(0, worst(4)),
         over(0, worst(7)),
-        over(0, worst(3)),
+        over(0, worst(3))
     )?;
     work_splits(rt)
 }

@@ -14,7 +14,7 @@ returns-in_err-var-clause-left g c = rw c.from_residual.ensures
 pub returns-clause-left : goal.returns-clause-left
 returns-clause-left g c =
     alone_done g.K.Kind.model g.met.K.Kind.lawful g.K.Kind.means g.K.Kind.held g.met.K.Kind.exact
-    c.args.base.now _ c.args.vars.now _ c.args.pairs.now c.args.y c.in_ok-var.var _ (sym c.in_ok-var.ensures)
+    c.args.base.now _ c.args.vars.now _ c.args.pairs.now c.args.y c.in_ok-var.var _ _ (sym c.in_ok-var.ensures)
     (c.join.ensures ∙ ap (λ b. g.K.Kind.held c.args.base.now b.score) c.better-best.ensures)
     c.leave.ensures
     (ap (λ v. removal c.args.y (Alone v)) (c.from.ensures ∙ byte_is _) ∙ ap (alone_note c.args.y) c.better-best.ensures)

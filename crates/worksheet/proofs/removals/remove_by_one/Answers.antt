@@ -20,7 +20,7 @@ returns-clause-left g c =
     let y = c.args.y in
     let x = by.link.partner in
     one_done g.K.Kind.model g.met.K.Kind.lawful g.K.Kind.means J g.met.K.Kind.exact
-    c.args.vars.now _ (take c.args.used.now c.args.pairs.now) _ y by _ c.best_with_one-at0.result c.best_with_one-at1.result
+    c.args.vars.now _ (take c.args.used.now c.args.pairs.now) _ y by _ _ c.best_with_one-at0.result c.best_with_one-at1.result
     (ap (λ ps. one_at c.args.vars.now ps y) (sym c.first.ensures) ∙ sym c.in_ok-var.ensures)
     c.best_with_one-at0.ensures c.best_with_one-at1.ensures
     (c.join_at.ensures ∙ ap (λ vs. join_at J vs x (record { zero = c.best_with_one-at0.result.score; one = c.best_with_one-at1.result.score })) c.leave.ensures)

@@ -1,16 +1,14 @@
-use Rattle.std.proofs.Common.{◌≡◌, take, drop, Some, Option, sym, ap, ◌∙◌, subst, ap₂, MatchOption, arith}
+use Rattle.std.proofs.Common.{◌≡◌, take, drop, Some, sym, ap, ◌∙◌, ap₂, arith}
 use Rattle.sheets.specs.Changed.{two_scores, kept, post}
 use Rattle.partners.specs.Links.{two_at}
 use Rattle.notes.specs.declared.removal.Way.TheVariants.{ByTwo}
 use Rattle.notes.specs.Removals.{bank_number, removal}
 use Rattle.worksheet.specs.Noting.{two_note}
 use Rattle.worksheet.proofs.Posting.{post_in_use, post_in_rest, post_used_within}
+use Rattle.worksheet.proofs.Does.{if_some}
 use Rattle.worksheet.proofs.Noted.{byte_is}
 use Rattle.worksheet.proofs.Removed.{two_done, two_refused, two_room}
 use Rattle.worksheet.proofs.removals.remove_by_two.Goals as goal
-
-if_some : {T : Type 0} (P : Type 0) (Q : T → Type 0) (o : Option T) (x : T) → Some x ≡ o → Q x → MatchOption o P Q
-if_some P Q o x e q = subst (λ z. MatchOption z P Q) e q
 
 pub returns-in_err-var-clause-left : goal.returns-in_err-var-clause-left
 returns-in_err-var-clause-left g c = rw c.from_residual.ensures
@@ -41,7 +39,7 @@ returns g c =
     ∙ ap₂ (λ v w. removal y (ByTwo x z (bank_number c.best_with_two-best.result.at00.second) (bank_number c.best_with_two-best.result.at01.second) v w)) (c.from-3.ensures ∙ byte_is _) (c.from-4.ensures ∙ byte_is _) in
     record {
       left = two_done g.K.Kind.model g.met.K.Kind.lawful g.K.Kind.means J g.met.K.Kind.exact
-          c.args.vars.now _ (take used all) _ y by _ c.best_with_two-best.result c.scores_of.result at
+          c.args.vars.now _ (take used all) _ y by _ _ c.best_with_two-best.result c.scores_of.result at
           best c.scores_of.ensures vars_are pairs_are note_is;
       does = if_some _ _ _ by (sym at)
           (record {
