@@ -86,9 +86,12 @@ impl<K: Kind> Pair<K> {
     }
 }
 
-// Where the pair of two variables stands.
+// Where the pair of two variables stands. The lower variable is asked for first: most records have another, and two pairs are
+// compared whole only where it is the same.
 pub fn place_of<K: Copy>(pairs: &[Pair<K>], low: u32, high: u32) -> Option<usize>
     ensures { result ≡ place low high pairs.now }
 {
-    pairs.iter().position(|pair| pair.is_of(low, high))
+    pairs
+        .iter()
+        .position(|pair| pair.low == low && pair.is_of(low, high))
 }
