@@ -1,6 +1,6 @@
 // The pairs of one variable, found in one pass over the pairs.
 ghost use Rattle.std.specs.Prelude.{◌≡◌, Some, None};
-ghost use Rattle.partners.specs.Links.{with_link, add_link, gather, present_at, alone_at, one_at, two_at};
+ghost use Rattle.partners.specs.Links.{with_link, gather, present_at, alone_at, one_at, two_at};
 
 use records::pairs::{Link, Pair};
 use score::values::Two;
@@ -32,23 +32,16 @@ impl<K: Copy> Links<K> {
             Links::Two(_, _) | Links::More => Links::More,
         }
     }
-
-    fn add(self, link: Option<Link<K>>) -> Links<K>
-        ensures { result ≡ add_link self link }
-    {
-        match link {
-            None => self,
-            Some(link) => self.with(link),
-        }
-    }
 }
 
+// Only the pairs that are the variable's are folded, so what was found is not copied at each of the others.
 fn links_of<K: Copy>(pairs: &[Pair<K>], y: u32) -> Links<K>
     ensures { result ≡ gather y Links.Alone pairs.now }
 {
     pairs
         .iter()
-        .fold(Links::Alone, |links, pair| links.add(pair.link_of(y)))
+        .filter_map(|pair| pair.link_of(y))
+        .fold(Links::Alone, |links, link| links.with(link))
 }
 
 // The scores of a variable that remains.
