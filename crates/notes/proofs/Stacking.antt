@@ -90,9 +90,10 @@ split_fewer s some =
 split_begun : (s : Opened) (p : Split) → top_of s ≡ Some p
     → ((begun s).splits ≡ (popped s).splits ++ at_one p ∷ []) × ((begun s).spare ≡ s.spare)
 split_begun s p top =
-    let some : length s.splits - 1 < length s.splits = slice_get_within s.splits (length s.splits - 1) p top in
-    (ap Opened.splits (begun_by s p top) ∙ last_set s.splits (at_one p) (omega arith) ∙ ap (λ l. l ++ at_one p ∷ []) (sym (ap Opened.splits (popped_by s p top))),
-    ap Opened.spare (begun_by s p top))
+    let some : length s.splits - 1 < length s.splits = slice_get_within s.splits (length s.splits - 1) p top in (
+      ap Opened.splits (begun_by s p top) ∙ last_set s.splits (at_one p) (omega arith) ∙ ap (λ l. l ++ at_one p ∷ []) (sym (ap Opened.splits (popped_by s p top))),
+      ap Opened.spare (begun_by s p top),
+    )
 
 push_bounded : (s : Opened) (y n : ℕ) → Bounded s → Bounded (pushed s y n)
 push_bounded s y n b = go (ltb (length s.splits) MOST_SPLITS) refl

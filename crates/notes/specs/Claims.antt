@@ -1,5 +1,5 @@
 -- The two stacks as lists, as a statement. Assumes nothing.
-use Rattle.std.specs.Prelude.{◌≡◌, ℕ, ◌<◌, ◌≤◌, List, [], ◌∷◌, ◌++◌, length, take, drop, Some}
+use Rattle.std.specs.Prelude.{◌≡◌, ℕ, ◌<◌, ◌≤◌, [], ◌∷◌, ◌++◌, length, take, drop, Some}
 use Rattle.notes.specs.declared.removal.Removal.{Removal}
 use Rattle.notes.specs.declared.splits.Split.{Split}
 use Rattle.notes.specs.declared.splits.TheConstants.{MOST_SPLITS}

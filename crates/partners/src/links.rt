@@ -34,12 +34,13 @@ impl<K: Copy> Links<K> {
     }
 }
 
-// Only the pairs that are the variable's are folded, so what was found is not copied at each of the others.
+// Only the variable's own pairs are folded, so that nothing is copied at any other.
 fn links_of<K: Copy>(pairs: &[Pair<K>], y: u32) -> Links<K>
     ensures { result ≡ gather y Links.Alone pairs.now }
 {
     pairs
         .iter()
+        .filter(|pair| pair.touches(y))
         .filter_map(|pair| pair.link_of(y))
         .fold(Links::Alone, |links, link| links.with(link))
 }
